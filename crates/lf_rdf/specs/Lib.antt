@@ -1,0 +1,3 @@
+pub mod Vocabulary
+pub mod Equality
+pub mod Canonical

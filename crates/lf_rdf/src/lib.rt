@@ -1,0 +1,10 @@
+//! RDF terms, quads, patches and the questions that are asked of a dataset (RDF 1.1 Concepts, sections 3 and 4).
+#![tactic(auto)]
+
+mod quad;
+mod question;
+mod term;
+
+pub use quad::{Patch, Quad, QuadList, Signed, SignedList};
+pub use question::{Answer, GraphRef, Question, QuestionList};
+pub use term::{Term, TermList};

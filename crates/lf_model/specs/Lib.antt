@@ -1,0 +1,3 @@
+pub mod JsonData
+pub mod ValueData
+pub mod TreeData

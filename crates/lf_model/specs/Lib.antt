@@ -1,3 +1,4 @@
+pub mod ErrorName
 pub mod JsonData
 pub mod ValueData
 pub mod TreeData

@@ -1,3 +1,6 @@
+ghost use Rattle.std.specs.Prelude.{◌≡◌};
+ghost use Rattle.lf_model.specs.ErrorName.{name_of};
+
 /// The errors of contexts, frames and compaction, by their names in the standards
 /// (JSON-LD 1.1 Processing Algorithms and API, section 9.6; JSON-LD 1.1 Framing, section 5.3).
 #[derive(Clone, Copy, Debug, PartialEq, Eq)]
@@ -25,4 +28,37 @@ pub enum LdError {
     KeywordRedefinition,
     LoadingRemoteContextFailed,
     IriConfusedWithPrefix,
+}
+
+impl LdError {
+    /// The name of the error in the standards.
+    pub fn name(&self) -> &str
+        ensures { result.now ≡ name_of self.now }
+    {
+        match self {
+            LdError::CollidingKeywords => "colliding keywords",
+            LdError::CyclicIriMapping => "cyclic IRI mapping",
+            LdError::InvalidEmbedValue => "invalid @embed value",
+            LdError::InvalidIdValue => "invalid @id value",
+            LdError::InvalidReverseValue => "invalid @reverse value",
+            LdError::InvalidVersionValue => "invalid @version value",
+            LdError::InvalidContainerMapping => "invalid container mapping",
+            LdError::InvalidDefaultLanguage => "invalid default language",
+            LdError::InvalidFrame => "invalid frame",
+            LdError::InvalidIriMapping => "invalid IRI mapping",
+            LdError::InvalidKeywordAlias => "invalid keyword alias",
+            LdError::InvalidLanguageMapping => "invalid language mapping",
+            LdError::InvalidLocalContext => "invalid local context",
+            LdError::InvalidPrefixValue => "invalid @prefix value",
+            LdError::InvalidReverseProperty => "invalid reverse property",
+            LdError::InvalidTermDefinition => "invalid term definition",
+            LdError::InvalidTypeMapping => "invalid type mapping",
+            LdError::InvalidTypeValue => "invalid type value",
+            LdError::InvalidValueObject => "invalid value object",
+            LdError::InvalidVocabMapping => "invalid vocab mapping",
+            LdError::KeywordRedefinition => "keyword redefinition",
+            LdError::LoadingRemoteContextFailed => "loading remote context failed",
+            LdError::IriConfusedWithPrefix => "IRI confused with prefix",
+        }
+    }
 }

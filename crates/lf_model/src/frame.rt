@@ -1,3 +1,4 @@
+use crate::json::Json;
 use crate::scalar::{Scalar, ScalarList};
 use crate::table::TermTable;
 use lf_base::{ListOf, Text};
@@ -111,11 +112,12 @@ pub enum DefaultValue {
 /// A list of default values.
 pub type DefaultList = ListOf<DefaultValue>;
 
-// Its printed context comes with the JSON values.
 /// A frame: node 0 is the top frame.
 #[derive(Debug, Drop)]
 pub struct Frame {
     pub nodes: FrameNodeList,
+    /// The value of the frame's `@context`, which the document repeats.
+    pub context: Json,
     pub table: TermTable,
     /// Whether a key of the top map expands to `@graph`.
     pub top_graph: bool,

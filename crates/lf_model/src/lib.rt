@@ -1,15 +1,25 @@
 //! The types that framing works on: JSON values, node views, contexts, frames, trees and documents.
 #![tactic(auto)]
 
+mod document;
 mod error;
 mod frame;
+mod json;
 mod scalar;
 mod table;
+mod tree;
+mod value;
 
+pub use document::{Doc, Limit, Outcome, OutcomeList};
 pub use error::LdError;
 pub use frame::{
     DefaultList, DefaultValue, Embed, Frame, FrameKind, FrameNode, FrameNodeList, FrameProp,
     FramePropList, FrameReverse, FrameReverseList, IdTest, PartTest, TypeTest, ValuePattern,
 };
+pub use json::{Json, JsonList, JsonMap};
 pub use scalar::{Scalar, ScalarList};
 pub use table::{Container, TermDef, TermDefList, TermTable};
+pub use tree::{
+    Tree, TreeList, TreeProp, TreePropList, TreeReverse, TreeReverseList, TreeValue, TreeValueList,
+};
+pub use value::{NodeView, Prop, PropList, Value, ValueList};

@@ -1,5 +1,6 @@
 ghost use Rattle.std.specs.Prelude.{◌≡◌, ◌↔◌, ◌<◌, [], length, slice_get, IsSome, IsTrue, OnOk, OnErr};
 ghost use Rattle.std.specs.Option.{option_copied};
+ghost use Rattle.lf_sorted.specs.Entries.{Ascends};
 
 use lf_base::{Memory, Text};
 use std::alloc::Global;
@@ -41,6 +42,22 @@ impl<T> MapOf<T> {
         MapOf {
             entries: Vec::new(alloc),
         }
+    }
+
+    /// The map of these entries.
+    pub fn from_vec(entries: Vec<Entry<T>>) -> MapOf<T>
+        requires { Ascends entries.items }
+        ensures { result ≡ entries.items }
+    {
+        MapOf { entries }
+    }
+
+    /// The entries.
+    pub fn as_slice(&self) -> &[Entry<T>]
+        ensures entries { result.now ≡ self.now }
+        ensures order { Ascends self.now }
+    {
+        self.entries.as_slice()
     }
 
     /// How many entries there are.

@@ -1,6 +1,7 @@
 use crate::error::LdError;
 use crate::tree::Tree;
-use lf_base::{ListOf, Text};
+use lf_base::{ListOf, Memory, Text, TryCopy};
+use std::alloc::Global;
 
 /// A limit of framing that a document met.
 #[derive(Clone, Copy, Debug, PartialEq, Eq)]
@@ -35,4 +36,25 @@ pub enum Doc {
     Bytes(Text),
     Refused(LdError),
     Over(Limit),
+}
+
+impl TryCopy for Outcome {
+    fn copy(&self, alloc: Global) -> Result<Outcome, Memory> {
+        match self {
+            Outcome::NotKey => Ok(Outcome::NotKey),
+            Outcome::NoMatch => Ok(Outcome::NoMatch),
+            Outcome::Matched(tree) => Ok(Outcome::Matched(tree.copy(alloc)?)),
+            Outcome::Over(limit) => Ok(Outcome::Over(*limit)),
+        }
+    }
+}
+
+impl TryCopy for Doc {
+    fn copy(&self, alloc: Global) -> Result<Doc, Memory> {
+        match self {
+            Doc::Bytes(text) => Ok(Doc::Bytes(text.copy(alloc)?)),
+            Doc::Refused(error) => Ok(Doc::Refused(*error)),
+            Doc::Over(limit) => Ok(Doc::Over(*limit)),
+        }
+    }
 }

@@ -4,6 +4,7 @@
 mod document;
 mod error;
 mod frame;
+mod frame_copy;
 mod json;
 mod scalar;
 mod table;

@@ -1,4 +1,5 @@
-use lf_base::{ListOf, Text};
+use lf_base::{ListOf, Memory, Text, TryCopy};
+use std::alloc::Global;
 
 /// A processed context (JSON-LD 1.1 Processing Algorithms and API, section 4.1): its terms in byte order of their names.
 #[derive(Debug, Drop)]
@@ -40,4 +41,29 @@ pub enum Container {
     List,
     Language,
     LanguageSet,
+}
+
+impl TryCopy for TermTable {
+    fn copy(&self, alloc: Global) -> Result<TermTable, Memory> {
+        Ok(TermTable {
+            vocab: self.vocab.copy(alloc)?,
+            language: self.language.copy(alloc)?,
+            terms: self.terms.copy(alloc)?,
+            type_set: self.type_set,
+        })
+    }
+}
+
+impl TryCopy for TermDef {
+    fn copy(&self, alloc: Global) -> Result<TermDef, Memory> {
+        Ok(TermDef {
+            name: self.name.copy(alloc)?,
+            iri: self.iri.copy(alloc)?,
+            prefix: self.prefix,
+            reverse: self.reverse,
+            coercion: self.coercion.copy(alloc)?,
+            language: self.language.copy(alloc)?,
+            container: self.container,
+        })
+    }
 }

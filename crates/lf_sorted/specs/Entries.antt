@@ -1,6 +1,6 @@
 -- Entries of a map in byte order of their keys.
-use Rattle.std.specs.Prelude.{◌≡◌, ℕ, List, [], ◌∷◌, map, Option, Some, None, refl}
-use Rattle.std.specs.Cmp.Lexicographic.{slice_cmp}
+use Rattle.std.specs.Prelude.{ℕ, nat_eq, List, [], ◌∷◌, map, Option, Some, None, if◌then◌else◌, refl}
+use Rattle.std.specs.Cmp.Lexicographic.{pointwise, slice_cmp}
 use Rattle.std.specs.Coded.{Coded, code_by, coded×, coded_list, coded_ℕ}
 use Rattle.std.specs.List.Sorted.{IsStrictlySortedBy}
 use Rattle.std.specs.Ordering.{nat_cmp, match_ordering}
@@ -35,7 +35,7 @@ put_entry key value (first ∷ rest) =
 -- the value at a key
 abbrev pub value_at : {T : Type 0} → List ℕ → List (Entry T) → Option T
 value_at key [] = None
-value_at key (first ∷ rest) = match_ordering (text_cmp key first.key) (value_at key rest) (Some first.value) (value_at key rest)
+value_at key (first ∷ rest) = if pointwise nat_eq key first.key then Some first.value else value_at key rest
 
 -- an entry is stored as the pair of its key and its value
 abbrev pub entry_code : {T : Type 0} → Coded T → Coded (Entry T)

@@ -1,6 +1,8 @@
 //! A map from texts, kept in byte order of its keys.
 #![tactic(auto)]
 
+mod laws;
 mod map;
 
+pub use laws::put_laws;
 pub use map::{Entry, MapOf};

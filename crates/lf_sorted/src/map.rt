@@ -1,9 +1,11 @@
-ghost use Rattle.std.specs.Prelude.{◌≡◌, ◌↔◌, ◌<◌, [], length, slice_get, IsSome, IsTrue, OnOk, OnErr};
+ghost use Rattle.std.specs.Prelude.{◌≡◌, ◌↔◌, ◌<◌, [], length, slice_get, IfErr, IfOk, IsSome, IsTrue, OnOk, OnErr};
 ghost use Rattle.std.specs.Option.{option_copied};
-ghost use Rattle.lf_sorted.specs.Entries.{Ascends};
+ghost use Rattle.lf_sorted.specs.Entries.{Ascends, put_entry, text_cmp, value_at};
+ghost use Rattle.lf_sorted.specs.Place.{IsAt, IsGapFor};
 
-use lf_base::{Memory, Text};
+use lf_base::{Memory, Text, TryCopy};
 use std::alloc::Global;
+use std::cmp::Ordering;
 use std::marker::Model;
 
 /// A key and its value.
@@ -81,4 +83,68 @@ impl<T> MapOf<T> {
     {
         self.entries.get(place as usize)
     }
+
+    /// The value at a key.
+    pub fn get(&self, key: &str) -> Option<&T>
+        ensures { option_copied result ≡ value_at key.now self.now }
+    {
+        match place_of(self.entries.as_slice(), key) {
+            Ok(place) => Some(&self.entries[place].value),
+            Err(_) => None,
+        }
+    }
+}
+
+impl<T: Drop> MapOf<T> {
+    /// Puts a value at a key, in the place of an older one. On `Memory` the map is as it was, and key and value are dropped.
+    pub fn put(&mut self, key: Text, value: T) -> Result<(), Memory>
+        ensures ok { OnOk result (self.new ≡ put_entry key value self.old) }
+        ensures err { OnErr result (self.new ≡ self.old) }
+    {
+        match place_of(self.entries.as_slice(), key.as_str()) {
+            Ok(place) => {
+                self.entries[place] = Entry { key, value };
+                Ok(())
+            }
+            Err(place) => {
+                self.entries.insert(place, Entry { key, value })?;
+                Ok(())
+            }
+        }
+    }
+}
+
+impl<T: TryCopy> TryCopy for Entry<T> {
+    fn copy(&self, alloc: Global) -> Result<Entry<T>, Memory> {
+        Ok(Entry {
+            key: self.key.copy(alloc)?,
+            value: self.value.copy(alloc)?,
+        })
+    }
+}
+
+impl<T: TryCopy + Drop> TryCopy for MapOf<T> {
+    fn copy(&self, alloc: Global) -> Result<MapOf<T>, Memory> {
+        let mut copied = Vec::new(alloc);
+        for entry in self.entries.iter() {
+            copied.push(entry.copy(alloc)?)?;
+        }
+        Ok(MapOf { entries: copied })
+    }
+}
+
+// Where the key is, or where it would go.
+fn place_of<T>(entries: &[Entry<T>], key: &str) -> Result<usize, usize>
+    requires { Ascends entries.now }
+    ensures found { IfOk result (IsAt entries.now key.now) }
+    ensures absent { IfErr result (IsGapFor entries.now key.now) }
+{
+    entries.binary_search_by(|entry| order_beside(entry, key))
+}
+
+// How the entry's key stands to a key.
+fn order_beside<T>(entry: &Entry<T>, key: &str) -> Ordering
+    ensures { result ≡ text_cmp entry.now.key key.now }
+{
+    entry.key.as_str().cmp(key)
 }

@@ -1,4 +1,7 @@
 pub mod ErrorName
+pub mod JsonBridge
 pub mod JsonData
-pub mod ValueData
+pub mod TreeBridge
 pub mod TreeData
+pub mod ValueBridge
+pub mod ValueData

@@ -1,3 +1,4 @@
+mod ErrorNames
 pub mod JsonLemmas
 pub mod TreeLemmas
 pub mod ValueLemmas

@@ -1,5 +1,5 @@
 -- The names of errors (JSON-LD 1.1 Processing Algorithms and API, section 9.6; JSON-LD 1.1 Framing, section 5.3).
-use Rattle.std.specs.Prelude.{List, ℕ, codes}
+use Rattle.std.specs.Prelude.{◌≡◌, List, ℕ, codes}
 use Rattle.lf_model.specs.declared.error.LdError.{LdError}
 use Rattle.lf_model.specs.declared.error.LdError.TheVariants.{CollidingKeywords, CyclicIriMapping, InvalidEmbedValue, InvalidIdValue, InvalidReverseValue, InvalidVersionValue, InvalidContainerMapping, InvalidDefaultLanguage, InvalidFrame, InvalidIriMapping, InvalidKeywordAlias, InvalidLanguageMapping, InvalidLocalContext, InvalidPrefixValue, InvalidReverseProperty, InvalidTermDefinition, InvalidTypeMapping, InvalidTypeValue, InvalidValueObject, InvalidVocabMapping, KeywordRedefinition, LoadingRemoteContextFailed, IriConfusedWithPrefix}
 
@@ -28,3 +28,7 @@ name_of InvalidVocabMapping = codes "invalid vocab mapping"
 name_of KeywordRedefinition = codes "keyword redefinition"
 name_of LoadingRemoteContextFailed = codes "loading remote context failed"
 name_of IriConfusedWithPrefix = codes "IRI confused with prefix"
+
+-- no two errors share a name
+abbrev pub NamesDiffer : Type 0
+NamesDiffer = (a b : LdError) → name_of a ≡ name_of b → a ≡ b

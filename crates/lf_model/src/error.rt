@@ -1,5 +1,5 @@
 ghost use Rattle.std.specs.Prelude.{◌≡◌};
-ghost use Rattle.lf_model.specs.ErrorName.{name_of};
+ghost use Rattle.lf_model.specs.ErrorName.{NamesDiffer, name_of};
 
 /// The errors of contexts, frames and compaction, by their names in the standards
 /// (JSON-LD 1.1 Processing Algorithms and API, section 9.6; JSON-LD 1.1 Framing, section 5.3).
@@ -62,3 +62,8 @@ impl LdError {
         }
     }
 }
+
+/// No two errors share a name.
+pub fn error_names_law()
+    ensures { NamesDiffer }
+{}

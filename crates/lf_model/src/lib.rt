@@ -1,6 +1,7 @@
 //! The types that framing works on: JSON values, node views, contexts, frames, trees and documents.
 #![tactic(auto)]
 
+mod desk;
 mod document;
 mod error;
 mod frame;
@@ -11,8 +12,9 @@ mod table;
 mod tree;
 mod value;
 
+pub use desk::{CommitErr, Counted, FramedNow, Look, Notice, NoticeList, RegisterErr};
 pub use document::{Doc, Limit, Outcome, OutcomeList};
-pub use error::LdError;
+pub use error::{LdError, error_names_law};
 pub use frame::{
     DefaultList, DefaultValue, Embed, Frame, FrameKind, FrameNode, FrameNodeList, FrameProp,
     FramePropList, FrameReverse, FrameReverseList, IdTest, PartTest, TypeTest, ValuePattern,

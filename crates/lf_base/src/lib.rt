@@ -5,6 +5,8 @@ mod copying;
 mod list;
 mod memory;
 mod steps;
+#[cfg(test)]
+mod tests;
 mod text;
 
 pub use copying::{Same, TryCopy};

@@ -9,6 +9,8 @@ mod frame_copy;
 mod json;
 mod scalar;
 mod table;
+#[cfg(test)]
+mod tests;
 mod tree;
 mod value;
 

@@ -4,6 +4,8 @@
 mod quad;
 mod question;
 mod term;
+#[cfg(test)]
+mod tests;
 
 pub use quad::{Patch, Quad, QuadList, Signed, SignedList};
 pub use question::{Answer, GraphRef, Question, QuestionList};

@@ -3,6 +3,8 @@
 
 mod laws;
 mod map;
+#[cfg(test)]
+mod tests;
 
 pub use laws::put_laws;
 pub use map::{Entry, MapOf};

@@ -1,0 +1,10 @@
+pub mod Sorted
+pub mod Order
+pub mod Dataset
+pub mod Terms
+pub mod Questions
+pub mod Near
+pub mod Rounds
+pub mod Cells
+pub mod Values
+pub mod Views

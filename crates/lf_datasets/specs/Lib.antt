@@ -8,3 +8,4 @@ pub mod Rounds
 pub mod Cells
 pub mod Values
 pub mod Views
+pub mod Worked

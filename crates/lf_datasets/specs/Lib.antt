@@ -9,3 +9,4 @@ pub mod Cells
 pub mod Values
 pub mod Views
 pub mod Worked
+pub mod VersionLaws

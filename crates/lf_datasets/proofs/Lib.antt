@@ -1,0 +1,4 @@
+pub mod Bools
+pub mod SortedLaws
+pub mod OrderLaws
+pub mod VersionProofs

@@ -2,3 +2,4 @@ pub mod Bools
 pub mod SortedLaws
 pub mod OrderLaws
 pub mod VersionProofs
+pub mod QuestionProofs

@@ -10,3 +10,4 @@ pub mod Values
 pub mod Views
 pub mod Worked
 pub mod VersionLaws
+pub mod QuestionLaws

@@ -3,3 +3,5 @@ pub mod SortedLaws
 pub mod OrderLaws
 pub mod VersionProofs
 pub mod QuestionProofs
+pub mod RoundProofs
+pub mod CellProofs

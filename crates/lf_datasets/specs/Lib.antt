@@ -11,3 +11,4 @@ pub mod Views
 pub mod Worked
 pub mod VersionLaws
 pub mod QuestionLaws
+pub mod CellLaws

@@ -87,23 +87,24 @@ is_subject (q ∷ rest) g b e = subject_case g b q rest (lies_in g q && term_eq 
 pub record Shape (answers : Answers) (g : GraphRef) (b : Term) : Type 0 where
   pub blank : is_blank b ≡ true
   pub first : is_one (with_predicate rdf_first (answers.out g b)) ≡ true
+  pub rest : is_one (with_predicate rdf_rest (answers.out g b)) ≡ true
   pub form : has_list_form (answers.out g b) ≡ true
   pub one_use : is_one_in g (answers.uses b) ≡ true
 
 pub shape : (answers : Answers) (g : GraphRef) (b : Term) → shaped answers g b ≡ true → Shape answers g b
 shape answers g b e =
-    let form : Bool = has_list_form (answers.out g b) in
     let x : ((is_blank b && not (answers.named b) && has_list_form (answers.out g b)) ≡ true) × (is_one_in g (answers.uses b) ≡ true) =
             and_parts (is_blank b && not (answers.named b) && has_list_form (answers.out g b)) (is_one_in g (answers.uses b)) e in
     let y : ((is_blank b && not (answers.named b)) ≡ true) × (has_list_form (answers.out g b) ≡ true) =
             and_parts (is_blank b && not (answers.named b)) (has_list_form (answers.out g b)) x.0 in
     let z : (is_blank b ≡ true) × (not (answers.named b) ≡ true) = and_parts (is_blank b) (not (answers.named b)) y.0 in
-    record { blank = z.0; first = first_of (answers.out g b) y.1; form = y.1; one_use = x.1 }
-  where
-    first_of : (quads : List Quad) → has_list_form quads ≡ true → is_one (with_predicate rdf_first quads) ≡ true
-    first_of quads h =
-        let u = and_parts (is_one (with_predicate rdf_first quads) && is_one (with_predicate rdf_rest quads)) (at_most_list_type (other_quads quads)) h in
-        (and_parts (is_one (with_predicate rdf_first quads)) (is_one (with_predicate rdf_rest quads)) u.0).0
+    let u : ((is_one (with_predicate rdf_first (answers.out g b)) && is_one (with_predicate rdf_rest (answers.out g b))) ≡ true)
+            × (at_most_list_type (other_quads (answers.out g b)) ≡ true) =
+            and_parts (is_one (with_predicate rdf_first (answers.out g b)) && is_one (with_predicate rdf_rest (answers.out g b)))
+            (at_most_list_type (other_quads (answers.out g b))) y.1 in
+    let v : (is_one (with_predicate rdf_first (answers.out g b)) ≡ true) × (is_one (with_predicate rdf_rest (answers.out g b)) ≡ true) =
+            and_parts (is_one (with_predicate rdf_first (answers.out g b))) (is_one (with_predicate rdf_rest (answers.out g b))) u.0 in
+    record { blank = z.0; first = v.0; rest = v.1; form = y.1; one_use = x.1 }
 
 pub shaped_is_subject : (dataset : List Quad) (g : GraphRef) (b : Term) → is_shaped dataset g b ≡ true → has term_eq (subjects dataset) b ≡ true
 shaped_is_subject dataset g b e =
@@ -169,7 +170,7 @@ module _ (dataset : List Quad) (g : GraphRef) where
       (low n h) (low (enough dataset) is_enough) b
 
   -- the cells by the proper nodes of the dataset, after some rounds
-  pub cells_in : ℕ → Term → Bool
+  unfoldable pub cells_in : ℕ → Term → Bool
   cells_in n = rounds (cell_step answers proper) n
 
   pub cells_lie_in : (n m : ℕ) → length dataset ≤ m → Within (cells_in n) (cells_in m)

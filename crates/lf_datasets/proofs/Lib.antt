@@ -5,3 +5,4 @@ pub mod VersionProofs
 pub mod QuestionProofs
 pub mod RoundProofs
 pub mod CellProofs
+pub mod ValueProofs

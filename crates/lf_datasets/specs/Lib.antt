@@ -12,3 +12,4 @@ pub mod Worked
 pub mod VersionLaws
 pub mod QuestionLaws
 pub mod CellLaws
+pub mod ValueLaws

@@ -40,10 +40,11 @@ TouchingQuadsDecide =
 abbrev pub AnswersReply : Type 0
 AnswersReply = (dataset : List Quad) (question : Question) → reply (answers_of dataset) question ≡ answer dataset question
 
--- the terms of a dataset and the nodes of a graph stand each once, in order of their ids
+-- the terms of a dataset stand each once, in order of their ids
 abbrev pub TermsInOrder : Type 0
 TermsInOrder = (dataset : List Quad) → IsTrue (sorted.ascends id_cmp (terms dataset))
 
+-- the nodes of a graph stand each once, in order of their ids
 abbrev pub MembersInOrder : Type 0
 MembersInOrder = (dataset : List Quad) (g : GraphRef) → IsTrue (sorted.ascends id_cmp (members dataset g))
 

@@ -94,16 +94,16 @@ pub record Shape (answers : Answers) (g : GraphRef) (b : Term) : Type 0 where
 pub shape : (answers : Answers) (g : GraphRef) (b : Term) → shaped answers g b ≡ true → Shape answers g b
 shape answers g b e =
     let x : ((is_blank b && not (answers.named b) && has_list_form (answers.out g b)) ≡ true) × (is_one_in g (answers.uses b) ≡ true) =
-            and_parts (is_blank b && not (answers.named b) && has_list_form (answers.out g b)) (is_one_in g (answers.uses b)) e in
+    and_parts (is_blank b && not (answers.named b) && has_list_form (answers.out g b)) (is_one_in g (answers.uses b)) e in
     let y : ((is_blank b && not (answers.named b)) ≡ true) × (has_list_form (answers.out g b) ≡ true) =
-            and_parts (is_blank b && not (answers.named b)) (has_list_form (answers.out g b)) x.0 in
+    and_parts (is_blank b && not (answers.named b)) (has_list_form (answers.out g b)) x.0 in
     let z : (is_blank b ≡ true) × (not (answers.named b) ≡ true) = and_parts (is_blank b) (not (answers.named b)) y.0 in
     let u : ((is_one (with_predicate rdf_first (answers.out g b)) && is_one (with_predicate rdf_rest (answers.out g b))) ≡ true)
-            × (at_most_list_type (other_quads (answers.out g b)) ≡ true) =
-            and_parts (is_one (with_predicate rdf_first (answers.out g b)) && is_one (with_predicate rdf_rest (answers.out g b)))
-            (at_most_list_type (other_quads (answers.out g b))) y.1 in
+    × (at_most_list_type (other_quads (answers.out g b)) ≡ true) =
+    and_parts (is_one (with_predicate rdf_first (answers.out g b)) && is_one (with_predicate rdf_rest (answers.out g b)))
+    (at_most_list_type (other_quads (answers.out g b))) y.1 in
     let v : (is_one (with_predicate rdf_first (answers.out g b)) ≡ true) × (is_one (with_predicate rdf_rest (answers.out g b)) ≡ true) =
-            and_parts (is_one (with_predicate rdf_first (answers.out g b))) (is_one (with_predicate rdf_rest (answers.out g b))) u.0 in
+    and_parts (is_one (with_predicate rdf_first (answers.out g b))) (is_one (with_predicate rdf_rest (answers.out g b))) u.0 in
     record { blank = z.0; first = v.0; rest = v.1; form = y.1; one_use = x.1 }
 
 pub shaped_is_subject : (dataset : List Quad) (g : GraphRef) (b : Term) → is_shaped dataset g b ≡ true → has term_eq (subjects dataset) b ≡ true
@@ -183,7 +183,7 @@ module _ (dataset : List Quad) (g : GraphRef) where
       let same : proper_within answers g n ≡ proper = λ i x. proper_rounds n h x i in
       ap (λ (P : Term → Bool). rounds (cell_step answers P) n b) same
       ∙ same_rounds (cell_step answers proper) (cell_mono answers proper) term_eq term_decides (subjects dataset) cells_among n (enough dataset)
-        (low n h) (low (enough dataset) is_enough) b
+      (low n h) (low (enough dataset) is_enough) b
 
 pub proper_nodes : ProperNodes
 proper_nodes dataset g b =
@@ -199,10 +199,10 @@ pub proper_nodes_are_least : ProperNodesAreLeast
 proper_nodes_are_least dataset g set closed b e =
     least (proper_step (answers_of dataset) g) (proper_mono (answers_of dataset) g) set
     (λ x told.
-      let parts : (is_shaped dataset g x ≡ true) × (ends_or set (rest_of (answers_of dataset) g x) ≡ true) =
-              and_parts (is_shaped dataset g x) (ends_or set (rest_of (answers_of dataset) g x))
-              (sym (proper_parts (is_shaped dataset g x) set (rest_of (answers_of dataset) g x)) ∙ told) in
-      closed x parts.0 parts.1)
+    let parts : (is_shaped dataset g x ≡ true) × (ends_or set (rest_of (answers_of dataset) g x) ≡ true) =
+    and_parts (is_shaped dataset g x) (ends_or set (rest_of (answers_of dataset) g x))
+    (sym (proper_parts (is_shaped dataset g x) set (rest_of (answers_of dataset) g x)) ∙ told) in
+    closed x parts.0 parts.1)
     (enough dataset) b e
 
 pub cells_are_least : CellsAreLeast
@@ -210,10 +210,10 @@ cells_are_least dataset g set closed b e =
     let P : Term → Bool = is_proper dataset g in
     least (cell_step (answers_of dataset) (is_proper dataset g)) (cell_mono (answers_of dataset) (is_proper dataset g)) set
     (λ x told.
-      let parts : (is_proper dataset g x ≡ true) × (begins_or (is_proper dataset g) set (user_of (answers_of dataset) x) ≡ true) =
-              and_parts (is_proper dataset g x) (begins_or (is_proper dataset g) set (user_of (answers_of dataset) x))
-              (sym (cell_parts (is_proper dataset g x) (is_proper dataset g) set (user_of (answers_of dataset) x)) ∙ told) in
-      closed x parts.0 parts.1)
+    let parts : (is_proper dataset g x ≡ true) × (begins_or (is_proper dataset g) set (user_of (answers_of dataset) x) ≡ true) =
+    and_parts (is_proper dataset g x) (begins_or (is_proper dataset g) set (user_of (answers_of dataset) x))
+    (sym (cell_parts (is_proper dataset g x) (is_proper dataset g) set (user_of (answers_of dataset) x)) ∙ told) in
+    closed x parts.0 parts.1)
     (enough dataset) b e
 
 pub rounds_suffice : RoundsSuffice
@@ -231,5 +231,5 @@ one_in g (q ∷ r ∷ rest) e = absurd (false≢true e)
 pub cells_are_used_once : CellsAreUsedOnce
 cells_are_used_once dataset g b e =
     let s : Shape (answers_of dataset) g b =
-            shape (answers_of dataset) g b (rounds_are_shaped (answers_of dataset) g (enough dataset) b (cells_are_proper dataset g b e)) in
+    shape (answers_of dataset) g b (rounds_are_shaped (answers_of dataset) g (enough dataset) b (cells_are_proper dataset g b e)) in
     one_in g (uses dataset b) s.one_use

@@ -94,7 +94,7 @@ term_told (Literal a c k) (Iri b) e = absurd (false≢true e)
 term_told (Literal a c k) (Blank b) e = absurd (false≢true e)
 term_told (Literal a c k) (Literal b d l) e =
     let outer : ((text_eq a b && text_eq c d) ≡ true) × (option_eq text_eq k l ≡ true) =
-            and_parts (text_eq a b && text_eq c d) (option_eq text_eq k l) e in
+    and_parts (text_eq a b && text_eq c d) (option_eq text_eq k l) e in
     let inner : (text_eq a b ≡ true) × (text_eq c d ≡ true) = and_parts (text_eq a b) (text_eq c d) outer.0 in
     let first : a ≡ b = (bytes_decides a b).0 inner.0 in
     let second : c ≡ d = (bytes_decides c d).0 inner.1 in
@@ -118,11 +118,11 @@ quad_from_fields q r s p o g = λ i. record { subject = s i; predicate = p i; ob
 quad_told : (q r : Quad) → quad_eq q r ≡ true → q ≡ r
 quad_told q r e =
     let x : ((term_eq q.subject r.subject && term_eq q.predicate r.predicate && term_eq q.object r.object) ≡ true) × (option_eq term_eq q.graph r.graph ≡ true) =
-            and_parts (term_eq q.subject r.subject && term_eq q.predicate r.predicate && term_eq q.object r.object) (option_eq term_eq q.graph r.graph) e in
+    and_parts (term_eq q.subject r.subject && term_eq q.predicate r.predicate && term_eq q.object r.object) (option_eq term_eq q.graph r.graph) e in
     let y : ((term_eq q.subject r.subject && term_eq q.predicate r.predicate) ≡ true) × (term_eq q.object r.object ≡ true) =
-            and_parts (term_eq q.subject r.subject && term_eq q.predicate r.predicate) (term_eq q.object r.object) x.0 in
+    and_parts (term_eq q.subject r.subject && term_eq q.predicate r.predicate) (term_eq q.object r.object) x.0 in
     let z : (term_eq q.subject r.subject ≡ true) × (term_eq q.predicate r.predicate ≡ true) =
-            and_parts (term_eq q.subject r.subject) (term_eq q.predicate r.predicate) y.0 in
+    and_parts (term_eq q.subject r.subject) (term_eq q.predicate r.predicate) y.0 in
     quad_from_fields q r (term_told q.subject r.subject z.0) (term_told q.predicate r.predicate z.1) (term_told q.object r.object y.1)
     ((option_decides term_eq term_decides q.graph r.graph).0 x.1)
 
@@ -179,10 +179,10 @@ pub quad_strict : IsStrict quad_eq quad_cmp
 quad_strict =
     record {
       total =
-        then_total (on_total line nat_list_cmp_total)
-        (then_total (on_total (λ (q : Quad). term_parts q.subject) parts_total)
-        (then_total (on_total (λ (q : Quad). term_parts q.predicate) parts_total)
-        (then_total (on_total (λ (q : Quad). term_parts q.object) parts_total) (on_total (λ (q : Quad). label_parts q.graph) parts_total))));
+          then_total (on_total line nat_list_cmp_total)
+          (then_total (on_total (λ (q : Quad). term_parts q.subject) parts_total)
+          (then_total (on_total (λ (q : Quad). term_parts q.predicate) parts_total)
+          (then_total (on_total (λ (q : Quad). term_parts q.object) parts_total) (on_total (λ (q : Quad). label_parts q.graph) parts_total))));
       tells = λ q r e. by_parts q r (then_second (text_cmp (line q) (line r)) (parts_order q r) e);
       decides = quad_decides;
     }

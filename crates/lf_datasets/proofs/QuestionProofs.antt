@@ -82,11 +82,11 @@ pub untouched_answers : UntouchedAnswers
 untouched_answers one two question a b alike =
     let test : Quad → Bool = λ q. touches q question in
     let same : filter (λ q. touches q question) one ≡ filter (λ q. touches q question) two =
-            same_members quad_strict (filter test one) (filter test two) (ascends-filter quad_strict test one a)
-            (ascends-filter quad_strict test two b)
-            (λ q.
-              has-filter quad_strict test one q
-              ∙ (alike_case (holds one q) (holds two q) (touches q question) (alike q) ∙ sym (has-filter quad_strict test two q))) in
+    same_members quad_strict (filter test one) (filter test two) (ascends-filter quad_strict test one a)
+    (ascends-filter quad_strict test two b)
+    (λ q.
+    has-filter quad_strict test one q
+    ∙ (alike_case (holds one q) (holds two q) (touches q question) (alike q) ∙ sym (has-filter quad_strict test two q))) in
     touching_quads_decide one question
     ∙ (ap (λ (w : List Quad). answer w question) same ∙ sym (touching_quads_decide two question))
 
@@ -102,7 +102,7 @@ not_added : (patch : List Signed) (q : Quad) (question : Question) → touches q
 not_added [] q question t f = (refl, refl)
 not_added (s ∷ rest) q question t f =
     let parts : (touches s.quad question ≡ false) × (list_any (λ (line : Signed). touches line.quad question) rest ≡ false) =
-            or_parts (touches s.quad question) (list_any (λ (line : Signed). touches line.quad question) rest) f in
+    or_parts (touches s.quad question) (list_any (λ (line : Signed). touches line.quad question) rest) f in
     let ih : (holds (additions rest) q ≡ false) × (holds (deletions rest) q ≡ false) = not_added rest q question t parts.1 in
     let other : quad_eq q s.quad ≡ false = line_false s q question (quad_eq q s.quad) refl t parts.0 in
     go s.add other ih
@@ -122,9 +122,9 @@ pub untouched_by_patch : UntouchedByPatch
 untouched_by_patch dataset patch question a none =
     untouched_answers (after dataset patch) dataset question (patch_keeps_order dataset patch a) a
     λ q t.
-        let no : (holds (additions patch) q ≡ false) × (holds (deletions patch) q ≡ false) = not_added patch q question t none in
-        patch_decides_quads dataset patch q
-        ∙ stays (holds (additions patch) q) (holds (deletions patch) q) (holds dataset q) no.0 no.1
+    let no : (holds (additions patch) q ≡ false) × (holds (deletions patch) q ≡ false) = not_added patch q question t none in
+    patch_decides_quads dataset patch q
+    ∙ stays (holds (additions patch) q) (holds (deletions patch) q) (holds dataset q) no.0 no.1
 
 pub answers_reply : AnswersReply
 answers_reply dataset (ask.Out g s) = refl

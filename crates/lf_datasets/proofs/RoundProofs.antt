@@ -62,13 +62,13 @@ module _ {A : Type 0} (same : A → A → Bool) (decides : (x y : A) → Decides
       inr (omega arith)
   more_case S T f y ys true t p q (inl fixed) =
       inl λ x in_list told.
-        ⊎_elim (λ e. subst (λ (w : A). S w ≡ true) (sym ((decides x y).0 e)) p) (λ e. fixed x e told) (or_cases (same x y) (has same ys x) in_list)
+      ⊎_elim (λ e. subst (λ (w : A). S w ≡ true) (sym ((decides x y).0 e)) p) (λ e. fixed x e told) (or_cases (same x y) (has same ys x) in_list)
   more_case S T f y ys true t p q (inr fewer) =
       let a : bit (S y) ≤ bit (T y) = bit_mono (S y) (T y) (f y) in
       inr (omega arith)
   more_case S T f y ys false false p q (inl fixed) =
       inl λ x in_list told.
-        ⊎_elim (λ e. absurd (true≢false (sym told ∙ (ap T ((decides x y).0 e) ∙ q)))) (λ e. fixed x e told) (or_cases (same x y) (has same ys x) in_list)
+      ⊎_elim (λ e. absurd (true≢false (sym told ∙ (ap T ((decides x y).0 e) ∙ q)))) (λ e. fixed x e told) (or_cases (same x y) (has same ys x) in_list)
   more_case S T f y ys false false p q (inr fewer) =
       let a : bit (S y) ≤ bit (T y) = bit_mono (S y) (T y) (f y) in
       inr (omega arith)

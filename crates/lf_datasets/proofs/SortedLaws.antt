@@ -184,6 +184,6 @@ module _ {A : Type 0} {same : A → A → Bool} {cmp : A → A → Ordering} (o 
       let is : x ≡ y = heads x y xs ys (cmp x y) refl pa.0 pb.0 alike in
       let by : below x ys ≡ true = subst (λ (w : A). below w ys ≡ true) (sym is) pb.0 in
       let alike' : (z : A) → (same z x || has same xs z) ≡ (same z x || has same ys z) =
-          λ z. subst (λ (w : A). (same z x || has same xs z) ≡ (same z w || has same ys z)) (sym is) (alike z) in
+      λ z. subst (λ (w : A). (same z x || has same xs z) ≡ (same z w || has same ys z)) (sym is) (alike z) in
       let rest : xs ≡ ys = same_members xs ys pa.1 pb.1 (λ z. tail_case x xs ys z (same z x) refl pa.0 by (alike' z)) in
       cc

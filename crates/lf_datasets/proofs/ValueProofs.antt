@@ -85,17 +85,17 @@ used_by : (dataset : List Quad) (g : GraphRef) (iri : List ℕ) (b o : Term) →
 used_by dataset g iri b o no_type e one =
     let (q, in_out, predicate, object) = found_quad iri (out dataset g b) o e in
     let told : ((lies_in g q && term_eq q.subject b) && holds dataset q) ≡ true =
-            sym (has-filter quad_strict (λ (w : Quad). lies_in g w && term_eq w.subject b) dataset q) ∙ in_out in
+    sym (has-filter quad_strict (λ (w : Quad). lies_in g w && term_eq w.subject b) dataset q) ∙ in_out in
     let parts : ((lies_in g q && term_eq q.subject b) ≡ true) × (holds dataset q ≡ true) =
-            and_parts (lies_in g q && term_eq q.subject b) (holds dataset q) told in
+    and_parts (lies_in g q && term_eq q.subject b) (holds dataset q) told in
     let subject : q.subject ≡ b = (term_decides q.subject b).0 (and_parts (lies_in g q) (term_eq q.subject b) parts.0).1 in
     let plain : tells_type q ≡ false = ap (is_iri rdf_type) (sym (iri_told iri q.predicate predicate)) ∙ no_type in
     let used : is_use o q ≡ true =
-            and_from (term_eq q.object o) (not (tells_type q)) ((term_decides q.object o).1 object) (ap not plain) in
+    and_from (term_eq q.object o) (not (tells_type q)) ((term_decides q.object o).1 object) (ap not plain) in
     let (u, alone, there) = one_in g (uses dataset o) one in
     let among : has quad_eq (u ∷ []) q ≡ true =
-            ap (λ (w : List Quad). has quad_eq w q) (sym alone)
-            ∙ (has-filter quad_strict (is_use o) dataset q ∙ and_from (is_use o q) (holds dataset q) used parts.1) in
+    ap (λ (w : List Quad). has quad_eq w q) (sym alone)
+    ∙ (has-filter quad_strict (is_use o) dataset q ∙ and_from (is_use o q) (holds dataset q) used parts.1) in
     let is : q ≡ u = (quad_decides q u).0 (or_false_told (quad_eq q u) among) in
     ap subject_of alone ∙ (ap (λ (w : Quad). Some w.subject) (sym is) ∙ ap Some subject)
 
@@ -141,7 +141,7 @@ module _ (dataset : List Quad) (g : GraphRef) where
   cell_of_cell b r c p user =
       cell_nodes dataset g r
       ∙ and_from (proper r) (begins_or proper cell (user_of answers r)) p
-        (ap (begins_or proper cell) user ∙ or_right (not (proper b)) (cell b) c)
+      (ap (begins_or proper cell) user ∙ or_right (not (proper b)) (cell b) c)
 
   later_round : (k : ℕ) (b x : Term) → proper b ≡ true → cells_in dataset g k b ≡ false → user_of answers x ≡ Some b
       → cells_in dataset g (suc k) x ≡ false
@@ -151,6 +151,7 @@ module _ (dataset : List Quad) (g : GraphRef) where
     where
       inner : begins_or proper (rounds (cell_step answers proper) k) (user_of answers x) ≡ false
       inner = ap (begins_or proper (rounds (cell_step answers proper) k)) user ∙ (λ i. not (p i) || none i)
+
       go : (r : Bool) → cell_if r proper (rounds (cell_step answers proper) k) (user_of answers x) ≡ false
       go true = inner
       go false = refl
@@ -174,9 +175,9 @@ module _ (dataset : List Quad) (g : GraphRef) where
   listlike : (b r : Term) → cell b ≡ true → rest_of answers g b ≡ Some r → (is_iri rdf_nil r || cell r) ≡ true
   listlike b r c e =
       let told : (is_shaped dataset g b && ends_or proper (rest_of answers g b)) ≡ true =
-              sym (proper_nodes dataset g b) ∙ cells_are_proper dataset g b c in
+      sym (proper_nodes dataset g b) ∙ cells_are_proper dataset g b c in
       let ends : ends_or proper (rest_of answers g b) ≡ true =
-              (and_parts (is_shaped dataset g b) (ends_or proper (rest_of answers g b)) told).1 in
+      (and_parts (is_shaped dataset g b) (ends_or proper (rest_of answers g b)) told).1 in
       let here : (is_iri rdf_nil r || proper r) ≡ true = ap (ends_or proper) (sym e) ∙ ends in
       ⊎_elim (λ n. or_left (is_iri rdf_nil r) (cell r) n)
       (λ p. or_right (is_iri rdf_nil r) (cell r) (cell_of_cell b r c p (used_by dataset g rdf_rest b r rest_no_type e (shape_of r p).one_use)))
@@ -257,11 +258,11 @@ module _ (dataset : List Quad) (g : GraphRef) where
       let (r, er) = one_object (with_predicate rdf_rest (out dataset g (Blank l))) s.rest in
       let (items, is) = value_is_list r (listlike (Blank l) r c er) in
       let once : within step (suc (enough dataset)) (Blank l) ≡ Some (value_of dataset g (Blank l)) =
-              found_next step mono (enough dataset) (Blank l) (value_of dataset g (Blank l)) (value_found (Blank l)) in
+      found_next step mono (enough dataset) (Blank l) (value_of dataset g (Blank l)) (value_found (Blank l)) in
       let both : within step (suc (enough dataset)) (Blank l) ≡ before_items (value_of dataset g i) (value_of dataset g r) =
-              two_found (enough dataset) l i r (value_of dataset g i) (value_of dataset g r) c ei er (value_found i) (value_found r) in
+      two_found (enough dataset) l i r (value_of dataset g i) (value_of dataset g r) c ei er (value_found i) (value_found r) in
       let told : Some (value_of dataset g (Blank l)) ≡ Some (list (value (value_of dataset g i) items)) =
-              sym once ∙ (both ∙ ap (before_items (value_of dataset g i)) is) in
+      sym once ∙ (both ∙ ap (before_items (value_of dataset g i)) is) in
       (i, r, items, ei, er, is, some_told (value_of dataset g (Blank l)) (list (value (value_of dataset g i) items)) told)
     where
       some_told : (x y : ListValue) → Some x ≡ Some y → x ≡ y
@@ -297,11 +298,12 @@ items_joined dataset g b item rest items c ei er ih =
     let same_item : i ≡ item = one_term i item (sym fi ∙ ei) in
     let same_rest : r ≡ rest = one_term r rest (sym fr ∙ er) in
     let same_items : found_items ≡ values_of (map (value_of dataset g) items) =
-            one_list found_items (values_of (map (value_of dataset g) items)) (sym told ∙ (ap (value_of dataset g) same_rest ∙ ih)) in
+    one_list found_items (values_of (map (value_of dataset g) items)) (sym told ∙ (ap (value_of dataset g) same_rest ∙ ih)) in
     is ∙ (λ j. list (value (value_of dataset g (same_item j)) (same_items j)))
   where
     one_term : (x y : Term) → Some x ≡ Some y → x ≡ y
     one_term x y e = cc
+
     one_list : (x y : ListValues) → list x ≡ list y → x ≡ y
     one_list x y e = cc
 

@@ -60,10 +60,10 @@ pub lines_in_any_order : LinesInAnyOrder
 lines_in_any_order dataset one two a alike =
     quads_decide (after dataset one) (after dataset two) (patch_keeps_order dataset one a) (patch_keeps_order dataset two a)
     λ q.
-        let plus : holds (additions one) q ≡ holds (additions two) q = adds one q ∙ (alike (added_line q) ∙ sym (adds two q)) in
-        let minus : holds (deletions one) q ≡ holds (deletions two) q = deletes one q ∙ (alike (deleted_line q) ∙ sym (deletes two q)) in
-        patch_decides_quads dataset one q
-        ∙ ((λ i. plus i || (holds dataset q && not (minus i))) ∙ sym (patch_decides_quads dataset two q))
+    let plus : holds (additions one) q ≡ holds (additions two) q = adds one q ∙ (alike (added_line q) ∙ sym (adds two q)) in
+    let minus : holds (deletions one) q ≡ holds (deletions two) q = deletes one q ∙ (alike (deleted_line q) ∙ sym (deletes two q)) in
+    patch_decides_quads dataset one q
+    ∙ ((λ i. plus i || (holds dataset q && not (minus i))) ∙ sym (patch_decides_quads dataset two q))
 
 idle : (adds dels here : Bool) → (adds ≡ true → here ≡ true) → (here ≡ true → dels ≡ true → adds ≡ true) → (adds || (here && not dels)) ≡ here
 idle true dels here f g = sym (f refl)
@@ -75,8 +75,8 @@ pub idle_patch_changes_nothing : IdlePatchChangesNothing
 idle_patch_changes_nothing dataset patch a within stays =
     quads_decide (after dataset patch) dataset (patch_keeps_order dataset patch a) a
     λ q.
-        patch_decides_quads dataset patch q
-        ∙ idle (holds (additions patch) q) (holds (deletions patch) q) (holds dataset q) (within q) (stays q)
+    patch_decides_quads dataset patch q
+    ∙ idle (holds (additions patch) q) (holds (deletions patch) q) (holds dataset q) (within q) (stays q)
 
 -- ---- versions
 
@@ -94,7 +94,7 @@ after_all-append dataset (patch ∷ one) two = after_all-append (after dataset p
 pub next_version : NextVersion
 next_version patches patch =
     let all : take (suc (length patches)) (patches ++ patch ∷ []) ≡ patches ++ patch ∷ [] =
-            take_all (suc (length patches)) (patches ++ patch ∷ []) (simp length-append (omega arith)) in
+    take_all (suc (length patches)) (patches ++ patch ∷ []) (simp length-append (omega arith)) in
     let before : take (length patches) patches ≡ patches = take_all (length patches) patches (omega arith) in
     ap (after_all []) all
     ∙ (after_all-append [] patches (patch ∷ []) ∙ ap (λ (w : List (List Signed)). after (after_all [] w) patch) (sym before))

@@ -1,5 +1,5 @@
 -- Facts of truth values that the laws share.
-use Rattle.std.proofs.Common.{◌≡◌, refl, sym, Bool, true, false, not, ◌&&◌, ◌||◌}
+use Rattle.std.proofs.Common.{◌≡◌, refl, sym, Bool, true, false, ◌&&◌, ◌||◌}
 use Rattle.std.proofs.lemmas.Bool.{true≢false, false≢true}
 
 pub or_absorb : (a b : Bool) → (a || b) ≡ (a || (a || b))

@@ -1,6 +1,6 @@
 -- The laws of the cells of lists.
-use Rattle.std.proofs.Common.{◌≡◌, refl, sym, ◌∙◌, ap, subst, ℕ, zero, suc, ◌≤◌, List, [], ◌∷◌, length, map, filter, cond, Bool, true, false, not, ◌&&◌, ◌||◌, Option, Some, None, IsTrue, Decides, arith}
-use Rattle.std.proofs.lemmas.Bool.{true≢false, false≢true, and_parts, and_from, or_cases, or_left, or_right}
+use Rattle.std.proofs.Common.{◌≡◌, refl, sym, ◌∙◌, ap, ℕ, zero, suc, ◌≤◌, List, [], ◌∷◌, length, map, filter, cond, Bool, true, false, not, ◌&&◌, ◌||◌, Option, Some, None, arith}
+use Rattle.std.proofs.lemmas.Bool.{false≢true, and_parts, or_left, or_right}
 use Rattle.lf_rdf.specs.declared.term.Term.{Term}
 use Rattle.lf_rdf.specs.declared.quad.Quad.{Quad}
 use Rattle.lf_rdf.specs.declared.question.GraphRef.{GraphRef}
@@ -12,9 +12,8 @@ use Rattle.lf_datasets.specs.Questions.{Answers, answers_of, out}
 use Rattle.lf_datasets.specs.Rounds.{rounds}
 use Rattle.lf_datasets.specs.Cells.{with_predicate, other_quads, is_one, at_most_list_type, is_one_in, has_list_form, shaped, rest_of, user_of, ends_or, proper_if, proper_step, proper_within, begins_or, cell_if, cell_step, cell_within, enough, is_shaped, is_proper, is_cell}
 use Rattle.lf_datasets.specs.CellLaws.{ProperNodes, ProperNodesAreLeast, CellNodes, CellsAreLeast, RoundsSuffice, CellsAreProper, CellsAreUsedOnce}
-use Rattle.lf_datasets.proofs.Bools.{same_truth}
 use Rattle.lf_datasets.proofs.OrderLaws.{term_decides}
-use Rattle.lf_datasets.proofs.RoundProofs.{Within, least, fixed_from, all_within, same_rounds, fixpoint}
+use Rattle.lf_datasets.proofs.RoundProofs.{Within, least, all_within, same_rounds, fixpoint}
 
 -- ---- both steps are monotone
 

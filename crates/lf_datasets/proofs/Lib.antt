@@ -6,3 +6,4 @@ pub mod QuestionProofs
 pub mod RoundProofs
 pub mod CellProofs
 pub mod ValueProofs
+pub mod ViewProofs

@@ -1,7 +1,7 @@
 -- The laws of terms, questions and answers.
-use Rattle.std.proofs.Common.{◌≡◌, refl, sym, ◌∙◌, ap, List, [], ◌∷◌, ◌++◌, Bool, true, false, not, cond, ◌&&◌, ◌||◌, IsTrue, IsFalse, Decides, filter, flat_map}
+use Rattle.std.proofs.Common.{◌≡◌, refl, sym, ◌∙◌, ap, List, [], ◌∷◌, ◌++◌, Bool, true, false, not, cond, ◌&&◌, ◌||◌, filter, flat_map}
 use Rattle.std.specs.List.{list_any}
-use Rattle.std.proofs.lemmas.Bool.{true≢false, false≢true, or_parts}
+use Rattle.std.proofs.lemmas.Bool.{true≢false, or_parts}
 use Rattle.lf_rdf.specs.declared.term.Term.{Term}
 use Rattle.lf_rdf.specs.declared.quad.Quad.{Quad}
 use Rattle.lf_rdf.specs.declared.quad.Signed.{Signed}
@@ -9,16 +9,14 @@ use Rattle.lf_rdf.specs.declared.question.GraphRef.{GraphRef}
 use Rattle.lf_rdf.specs.declared.question.GraphRef.TheVariants as graph
 use Rattle.lf_rdf.specs.declared.question.Question.{Question}
 use Rattle.lf_rdf.specs.declared.question.Question.TheVariants as ask
-use Rattle.lf_rdf.specs.declared.question.Answer.{Answer}
 use Rattle.lf_rdf.specs.declared.question.Answer.TheVariants.{Quads, Flag, Terms}
 use Rattle.lf_rdf.specs.Equality.{term_eq, quad_eq}
-use Rattle.lf_datasets.specs.Sorted.{has, without, ascends, set_of}
+use Rattle.lf_datasets.specs.Sorted.{has, set_of}
 use Rattle.lf_datasets.specs.Order.{id_cmp}
-use Rattle.lf_datasets.specs.Dataset.{is_dataset, holds, additions, deletions, after}
-use Rattle.lf_datasets.specs.Terms.{is_node, label_terms, terms, lies_in}
+use Rattle.lf_datasets.specs.Dataset.{holds, additions, deletions, after}
+use Rattle.lf_datasets.specs.Terms.{is_node, label_terms, lies_in}
 use Rattle.lf_datasets.specs.Questions.{nodes_in, names_in, members, answer, touches}
-use Rattle.lf_datasets.specs.QuestionLaws.{AlikeWhereTouched, UntouchedAnswers, UntouchedByPatch, TouchingQuadsDecide, AnswersReply, TermsInOrder, MembersInOrder, stands_in, TermsStandInQuads}
-use Rattle.lf_datasets.proofs.Bools.{same_truth}
+use Rattle.lf_datasets.specs.QuestionLaws.{UntouchedAnswers, UntouchedByPatch, TouchingQuadsDecide, AnswersReply, TermsInOrder, MembersInOrder, stands_in, TermsStandInQuads}
 use Rattle.lf_datasets.proofs.SortedLaws.{same_members, ascends-filter, ascends-set_of, has-filter, has-put_all}
 use Rattle.lf_datasets.proofs.OrderLaws.{quad_strict, id_strict, quad_decides}
 use Rattle.lf_datasets.proofs.VersionProofs.{patch_keeps_order, patch_decides_quads}

@@ -1,12 +1,12 @@
 -- The laws of sets as ascending lists, over any order that tells any two values apart.
 use Rattle.std.proofs.Common.{◌≡◌, refl, sym, ◌∙◌, ap, subst, List, [], ◌∷◌, Bool, true, false, not, ◌&&◌, ◌||◌, cond, Ordering, Less, Equal, Greater, is_lt, filter, Decides}
 use Rattle.std.specs.Cmp.{IsTotalOrder}
-use Rattle.std.specs.List.{list_any, list_all}
+use Rattle.std.specs.List.{list_all}
 use Rattle.std.specs.Ordering.{ordering_reverse}
-use Rattle.std.proofs.lemmas.Bool.{true≢false, false≢true, and_parts, and_from, not-true, not-false}
+use Rattle.std.proofs.lemmas.Bool.{true≢false, false≢true, and_parts, and_from}
 use Rattle.std.proofs.lemmas.Cmp.{tied_itself}
 use Rattle.lf_datasets.specs.Sorted.{has, without, ascends, placed, put, put_all, set_of}
-use Rattle.lf_datasets.proofs.Bools.{or_absorb, or_swap, or_regroup, and_false, and_swap, kept_head, dropped_head, same_truth}
+use Rattle.lf_datasets.proofs.Bools.{or_absorb, or_swap, or_regroup, and_false, and_swap, kept_head, dropped_head}
 
 -- a total order that tells any two values apart, and the test of equality
 pub record IsStrict {A : Type 0} (same : A → A → Bool) (cmp : A → A → Ordering) : Type 0 where

@@ -1,5 +1,5 @@
 -- The laws of the values of objects.
-use Rattle.std.proofs.Common.{◌≡◌, refl, sym, ◌∙◌, ap, subst, ℕ, zero, suc, ◌+◌, ◌≤◌, List, [], ◌∷◌, length, map, filter, cond, if◌then◌else◌, Bool, true, false, not, ◌&&◌, ◌||◌, ⊎_elim, Option, Some, None, IsTrue, IsFalse, Decides, arith}
+use Rattle.std.proofs.Common.{◌≡◌, refl, sym, ◌∙◌, ap, ℕ, zero, suc, ◌+◌, ◌≤◌, List, [], ◌∷◌, length, map, cond, if◌then◌else◌, Bool, true, false, not, ◌&&◌, ◌||◌, ⊎_elim, Option, Some, None, arith}
 use Rattle.std.specs.Cmp.Lexicographic.{bytes_decides}
 use Rattle.std.proofs.lemmas.Bool.{true≢false, false≢true, and_parts, and_from, or_cases, or_left, or_right}
 use Rattle.lf_rdf.specs.declared.term.Term.{Term}
@@ -11,16 +11,16 @@ use Rattle.lf_rdf.specs.Equality.{text_eq, term_eq, quad_eq}
 use Rattle.lf_model.specs.ValueData.{ListValue, literal, reference, list, ListValues, no_values, value, values_of}
 use Rattle.lf_datasets.specs.Sorted.{has}
 use Rattle.lf_datasets.specs.Dataset.{holds}
-use Rattle.lf_datasets.specs.Terms.{is_node, is_blank, is_iri, tells_type, lies_in, is_use, uses}
+use Rattle.lf_datasets.specs.Terms.{is_iri, tells_type, lies_in, is_use, uses}
 use Rattle.lf_datasets.specs.Questions.{Answers, answers_of, out}
 use Rattle.lf_datasets.specs.Rounds.{rounds, within}
 use Rattle.lf_datasets.specs.Cells.{with_predicate, is_one, is_one_in, object_of, subject_of, item_of, rest_of, user_of, ends_or, begins_or, cell_if, cell_step, cell_within, enough, is_shaped, is_proper, is_cell}
 use Rattle.lf_datasets.specs.Values.{found, before_items, joined, cell_or_reference, value_step, value_within, settled, value_of}
-use Rattle.lf_datasets.specs.ValueLaws.{LiteralValues, NilValue, ReferenceValues, CellValues, ItemsFrom, ItemsInOrder, StepsSuffice}
+use Rattle.lf_datasets.specs.ValueLaws.{LiteralValues, NilValue, ReferenceValues, CellValues, ItemsInOrder, StepsSuffice}
 use Rattle.lf_datasets.proofs.SortedLaws.{has-filter}
 use Rattle.lf_datasets.proofs.OrderLaws.{term_decides, quad_decides, quad_strict}
-use Rattle.lf_datasets.proofs.RoundProofs.{Within, found_next, found_later}
-use Rattle.lf_datasets.proofs.CellProofs.{Shape, shape, rounds_are_shaped, one_in, cells_in, cells_lie_in, proper_fixed, cell_fixed, cell_rounds, proper_nodes, cell_nodes, cells_are_proper}
+use Rattle.lf_datasets.proofs.RoundProofs.{found_next, found_later}
+use Rattle.lf_datasets.proofs.CellProofs.{Shape, shape, rounds_are_shaped, one_in, cells_in, cells_lie_in, cell_rounds, proper_nodes, cell_nodes, cells_are_proper}
 
 -- ---- the step is monotone
 

@@ -1,15 +1,13 @@
 -- The laws of versions.
-use Rattle.std.proofs.Common.{◌≡◌, refl, sym, ◌∙◌, ap, ℕ, suc, ◌≤◌, ◌+◌, List, [], ◌∷◌, ◌++◌, length, take, Bool, true, false, not, cond, ◌&&◌, ◌||◌, IsTrue, arith, length-append, take_all}
-use Rattle.std.specs.Bool.{beq}
+use Rattle.std.proofs.Common.{◌≡◌, refl, sym, ◌∙◌, ap, suc, List, [], ◌∷◌, ◌++◌, length, take, Bool, true, false, not, cond, ◌&&◌, ◌||◌, IsTrue, arith, length-append, take_all}
 use Rattle.std.proofs.lemmas.List.{take-append-le}
-use Rattle.std.proofs.lemmas.Bool.{true≢false, false≢true, or_cases}
+use Rattle.std.proofs.lemmas.Bool.{false≢true}
 use Rattle.lf_rdf.specs.declared.quad.Quad.{Quad}
 use Rattle.lf_rdf.specs.declared.quad.Signed.{Signed}
 use Rattle.lf_rdf.specs.Equality.{quad_eq}
 use Rattle.lf_datasets.specs.Sorted.{has, without}
-use Rattle.lf_datasets.specs.Dataset.{is_dataset, holds, additions, deletions, after, after_all, at_version}
+use Rattle.lf_datasets.specs.Dataset.{is_dataset, holds, additions, deletions, after, after_all}
 use Rattle.lf_datasets.specs.VersionLaws.{signed_eq, has_line, QuadsDecide, PatchKeepsOrder, PatchDecidesQuads, LinesInAnyOrder, IdlePatchChangesNothing, VersionsAreDatasets, NextVersion, VersionsStay}
-use Rattle.lf_datasets.proofs.Bools.{same_truth}
 use Rattle.lf_datasets.proofs.SortedLaws.{same_members, ascends-put_all, ascends-filter, has-put_all, has-without}
 use Rattle.lf_datasets.proofs.OrderLaws.{quad_strict}
 

@@ -13,3 +13,4 @@ pub mod VersionLaws
 pub mod QuestionLaws
 pub mod CellLaws
 pub mod ValueLaws
+pub mod ViewLaws

@@ -1,5 +1,5 @@
 -- What holds of terms, questions and their answers, whatever the dataset (RDF 1.1 Concepts, section 4).
-use Rattle.std.specs.Prelude.{◌≡◌, List, Bool, true, false, ◌&&◌, ◌||◌, IsTrue, IsFalse}
+use Rattle.std.specs.Prelude.{◌≡◌, List, Bool, ◌&&◌, ◌||◌, IsTrue, IsFalse}
 use Rattle.std.specs.List.{filter, list_any}
 use Rattle.lf_rdf.specs.declared.term.Term.{Term}
 use Rattle.lf_rdf.specs.declared.quad.Quad.{Quad}

@@ -5,7 +5,7 @@ use Rattle.lf_rdf.specs.declared.term.Term.TheVariants.{Iri, Literal}
 use Rattle.lf_rdf.specs.declared.quad.Quad.{Quad}
 use Rattle.lf_rdf.specs.declared.question.GraphRef.{GraphRef}
 use Rattle.lf_rdf.specs.Vocabulary.{rdf_nil}
-use Rattle.lf_model.specs.ValueData.{ListValue, literal, reference, list, ListValues, no_values, value, values_of}
+use Rattle.lf_model.specs.ValueData.{literal, reference, list, ListValues, no_values, value, values_of}
 use Rattle.lf_datasets.specs.Terms.{is_node, is_iri}
 use Rattle.lf_datasets.specs.Questions.{answers_of}
 use Rattle.lf_datasets.specs.Cells.{item_of, rest_of, enough, is_cell}

@@ -6,6 +6,7 @@ mod cell_laws;
 mod question_laws;
 mod value_laws;
 mod version_laws;
+mod view_laws;
 
 pub use cell_laws::{
     cell_nodes, cells_are_least, cells_are_proper, cells_are_used_once, proper_nodes,
@@ -21,4 +22,7 @@ pub use value_laws::{
 pub use version_laws::{
     idle_patch_changes_nothing, lines_in_any_order, next_version, patch_decides_quads,
     patch_keeps_order, quads_decide, versions_are_datasets, versions_stay,
+};
+pub use view_laws::{
+    keys_are_listed, keys_have_views, keys_in_order, merged_keys, view_steps_suffice,
 };

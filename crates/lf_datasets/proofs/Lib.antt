@@ -7,3 +7,5 @@ pub mod RoundProofs
 pub mod CellProofs
 pub mod ValueProofs
 pub mod ViewProofs
+pub mod LegibleProofs
+pub mod NearProofs

@@ -14,3 +14,5 @@ pub mod QuestionLaws
 pub mod CellLaws
 pub mod ValueLaws
 pub mod ViewLaws
+pub mod Legible
+pub mod NearLaws

@@ -3,6 +3,8 @@
 #![tactic(auto)]
 
 mod cell_laws;
+mod legible_laws;
+mod near_laws;
 mod question_laws;
 mod value_laws;
 mod version_laws;
@@ -12,6 +14,11 @@ pub use cell_laws::{
     cell_nodes, cells_are_least, cells_are_proper, cells_are_used_once, proper_nodes,
     proper_nodes_are_least, rounds_suffice,
 };
+pub use legible_laws::{
+    ids_order_nodes, ids_tell_nodes, lines_order_quads, lines_tell_quads, texts_order_terms,
+    texts_tell_terms,
+};
+pub use near_laws::{near_is_least, near_of_near};
 pub use question_laws::{
     answers_reply, members_in_order, terms_in_order, terms_stand_in_quads, touching_quads_decide,
     untouched_answers, untouched_by_patch,

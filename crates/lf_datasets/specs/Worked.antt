@@ -1,0 +1,6 @@
+-- Worked cases: what the definitions give on small datasets.
+pub mod Words
+pub mod ListLosesCell
+pub mod NoList
+pub mod NamedGraph
+pub mod IdleCommits

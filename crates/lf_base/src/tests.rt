@@ -1,8 +1,4 @@
-ghost use Rattle.std.specs.Prelude.{◌≡◌, ◌<◌};
-
-use crate::{ListOf, Same, Steps, Text, TextList, TryCopy};
-use std::marker::Brand;
-use std::sync::ledger::{Blank, Ledger};
+use crate::{ListOf, Same, Text, TextList, TryCopy};
 use std::test::Fail;
 
 #[test]
@@ -32,19 +28,4 @@ fn lists_are_vectors(rt: HostRuntime) -> Result<(), Fail> {
     assert_eq!(rt; copied.map(|list| list.len()), Some(2));
     assert_eq!(rt; ListOf::from_vec([true].to_vec(alloc)?).into_vec().len(), 1);
     Ok(())
-}
-
-#[test]
-fn steps_are_counted(_rt: HostRuntime) -> Result<(), Fail> {
-    counted::<Brand>(Blank::new(1));
-    Ok(())
-}
-
-fn counted<L: Ledger>(blank: Blank)
-    requires name { blank.name ≡ L.name }
-    requires parts { blank.parts ≡ L.parts }
-    requires one { 0 < blank.parts }
-{
-    let mut steps = Steps::<L>::of(blank);
-    steps.tick();
 }

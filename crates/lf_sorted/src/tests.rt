@@ -1,4 +1,4 @@
-use crate::{Entry, MapOf};
+use crate::MapOf;
 use lf_base::{Text, TryCopy};
 use std::test::Fail;
 
@@ -26,19 +26,5 @@ fn the_last_value_stands_in_key_order(rt: HostRuntime) -> Result<(), Fail> {
     }
     assert!(rt; copied.at(4).is_none() && map.get("c").is_none());
     assert_eq!(rt; map.as_slice().len(), 4);
-    Ok(())
-}
-
-#[test]
-fn a_map_of_one_entry(rt: HostRuntime) -> Result<(), Fail> {
-    let alloc = rt.alloc();
-    let mut entries = Vec::new(alloc);
-    entries.push(Entry {
-        key: Text::of(alloc, "k")?,
-        value: true,
-    }
-    .copy(alloc)?)?;
-    let map = MapOf::from_vec(entries);
-    assert_eq!(rt; map.get("k").copied(), Some(true));
     Ok(())
 }

@@ -5,6 +5,8 @@ use Rattle.lf_rdf.specs.declared.question.GraphRef.{GraphRef}
 use Rattle.lf_rdf.specs.declared.question.GraphRef.TheVariants as graph
 use Rattle.lf_rdf.specs.declared.question.Question.{Question}
 use Rattle.lf_rdf.specs.declared.question.Question.TheVariants as ask
+use Rattle.lf_rdf.specs.declared.question.Answer.{Answer}
+use Rattle.lf_rdf.specs.declared.question.Answer.TheVariants.{Flag, Quads, Terms}
 use Rattle.lf_datasets.specs.Questions.{answer}
 
 -- the default graph or a named one
@@ -39,3 +41,19 @@ pub record Learns {A : Type 0} (dataset : List Quad) (before after : Option (Lis
   pub told : after ≡ told_with asked before
   pub counted : last ≡ first + length asked
   pub same : (other : List Quad) → SameAnswers dataset other asked → given ≡ gives other
+
+-- a question that is answered by yes or no
+abbrev pub asks_flag : Question → Bool
+asks_flag (ask.Out g subject) = false
+asks_flag (ask.OutAny subject) = false
+asks_flag (ask.Inward g predicate object) = false
+asks_flag (ask.InwardAny predicate object) = false
+asks_flag (ask.Uses object) = false
+asks_flag (ask.Named name) = true
+asks_flag (ask.Members g) = false
+
+-- the flag of an answer that is one
+abbrev pub flag_in : Answer → Bool
+flag_in (Flag flag) = flag
+flag_in (Quads quads) = false
+flag_in (Terms terms) = false

@@ -1,8 +1,12 @@
 //! Oracles, which answer questions of a dataset, and the nodes that are seen by asking them.
 #![tactic(auto)]
 
+mod asking;
+mod naming;
 mod nodes;
 mod oracle;
 
+pub use asking::ask_flag;
+pub use naming::names_graph;
 pub use nodes::Nodes;
 pub use oracle::Oracle;

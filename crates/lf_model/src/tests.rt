@@ -1,108 +1,143 @@
 use crate::{
-    CommitErr, Counted, Doc, Json, JsonList, JsonMap, LdError, Limit, Outcome, RegisterErr, Scalar,
-    Tree, TreeList, TreeProp, TreePropList, TreeReverse, TreeReverseList, TreeValue, TreeValueList,
-    Value, ValueList,
+    Counted, Doc, Json, JsonList, JsonMap, LdError, Limit, RegisterErr, Scalar, Tree, TreeList,
+    TreeProp, TreePropList, TreeReverseList, TreeValue, TreeValueList, Value, ValueList,
 };
 use lf_base::{Memory, Same, Text, TryCopy};
 use lf_rdf::{Term, TermList};
 use std::alloc::Global;
 use std::test::Fail;
 
+fn copied<T: TryCopy + Drop>(alloc: Global, value: T) -> Result<T, Memory> {
+    value.copy(alloc)
+}
+
 fn iri(alloc: Global, text: &str) -> Result<Term, Memory> {
     Ok(Term::Iri(Text::of(alloc, text)?))
+}
+
+fn array(alloc: Global) -> Result<Json, Memory> {
+    let mut items = JsonList::new(alloc);
+    items.push(Json::Null)?;
+    items.push(Json::Whole(-5))?;
+    Ok(Json::List(items))
+}
+
+fn object(alloc: Global) -> Result<Json, Memory> {
+    let mut members = JsonMap::new(alloc);
+    members.put(Text::of(alloc, "b")?, array(alloc)?)?;
+    members.put(Text::of(alloc, "a")?, Json::Text(Text::of(alloc, "x")?))?;
+    Ok(Json::Map(members))
+}
+
+fn has_both_members(json: &Json) -> bool {
+    match json {
+        Json::Map(members) => {
+            members.len() == 2
+                && matches!(members.get("a"), Some(Json::Text(text)) if text.as_str() == "x")
+                && matches!(members.get("b"), Some(Json::List(items)) if items.len() == 2)
+        }
+        _ => false,
+    }
 }
 
 #[test]
 fn json_values_copy(rt: HostRuntime) -> Result<(), Fail> {
     let alloc = rt.alloc();
-    let mut items = JsonList::new(alloc);
-    items.push(Json::Null)?;
-    items.push(Json::Whole(-5))?;
-    items.push(Json::Bool(true))?;
-    items.push(Json::Fraction)?;
-    let mut members = JsonMap::new(alloc);
-    members.put(Text::of(alloc, "b")?, Json::List(items))?;
-    members.put(Text::of(alloc, "a")?, Json::Text(Text::of(alloc, "x")?))?;
-    let Json::Map(copied) = Json::Map(members).copy(alloc)? else {
-        return Ok(());
-    };
-    assert_eq!(rt; copied.len(), 2);
-    assert!(rt; matches!(copied.get("a"), Some(Json::Text(text)) if text.as_str() == "x"));
-    assert!(rt; matches!(copied.get("b"), Some(Json::List(items)) if items.len() == 4));
+    let json = copied(alloc, object(alloc)?)?;
+    let kept = has_both_members(&json);
+    drop(json);
+    assert!(rt; kept);
     Ok(())
+}
+
+fn values(alloc: Global) -> Result<TreeValueList, Memory> {
+    let mut values = TreeValueList::new(alloc);
+    values.push(TreeValue::Literal(iri(alloc, "http://e/o")?))?;
+    values.push(TreeValue::EmptyFallback)?;
+    Ok(values)
+}
+
+fn props(alloc: Global) -> Result<TreePropList, Memory> {
+    let mut props = TreePropList::new(alloc);
+    props.push(TreeProp {
+        property: Text::of(alloc, "http://e/p")?,
+        values: values(alloc)?,
+    })?;
+    Ok(props)
+}
+
+fn tree(alloc: Global) -> Result<Tree, Memory> {
+    Ok(Tree {
+        id: Some(iri(alloc, "http://e/s")?),
+        types: TermList::new(alloc),
+        graph: TreeList::new(alloc),
+        props: props(alloc)?,
+        reverse: TreeReverseList::new(alloc),
+    })
 }
 
 #[test]
 fn trees_copy(rt: HostRuntime) -> Result<(), Fail> {
     let alloc = rt.alloc();
-    let mut values = TreeValueList::new(alloc);
-    values.push(TreeValue::Literal(iri(alloc, "http://e/o")?))?;
-    values.push(TreeValue::EmptyFallback)?;
-    let mut props = TreePropList::new(alloc);
-    props.push(TreeProp {
-        property: Text::of(alloc, "http://e/p")?,
-        values,
-    })?;
-    let mut reverse = TreeReverseList::new(alloc);
-    reverse.push(TreeReverse {
-        property: Text::of(alloc, "http://e/r")?,
-        nodes: TreeList::new(alloc),
-    })?;
-    let tree = Tree {
-        id: Some(iri(alloc, "http://e/s")?),
-        types: TermList::new(alloc),
-        graph: TreeList::new(alloc),
-        props,
-        reverse,
-    };
-    let Outcome::Matched(copied) = Outcome::Matched(tree).copy(alloc)? else {
-        return Ok(());
-    };
-    assert!(rt; copied.id.is(&Some(iri(alloc, "http://e/s")?)));
-    assert!(rt; copied.props.len() == 1 && copied.reverse.len() == 1);
-    assert!(rt;
-        match copied.props.at(0) {
+    let tree = copied(alloc, tree(alloc)?)?;
+    let kept = tree.id.is_some()
+        && match tree.props.at(0) {
             Some(prop) => prop.property.as_str() == "http://e/p" && prop.values.len() == 2,
             None => false,
-        }
-    );
+        };
+    drop(tree);
+    assert!(rt; kept);
+    Ok(())
+}
+
+fn list_value(alloc: Global) -> Result<Value, Memory> {
+    let mut inner = ValueList::new(alloc);
+    inner.push(Value::Ref(iri(alloc, "http://e/o")?))?;
+    Ok(Value::List(inner))
+}
+
+#[test]
+fn values_copy(rt: HostRuntime) -> Result<(), Fail> {
+    let alloc = rt.alloc();
+    let value = copied(alloc, list_value(alloc)?)?;
+    let kept = matches!(&value, Value::List(items) if items.len() == 1);
+    drop(value);
+    assert!(rt; kept);
     Ok(())
 }
 
 #[test]
-fn values_documents_and_errors(rt: HostRuntime) -> Result<(), Fail> {
+fn documents_and_errors_copy(rt: HostRuntime) -> Result<(), Fail> {
     let alloc = rt.alloc();
-    let mut inner = ValueList::new(alloc);
-    inner.push(Value::Ref(iri(alloc, "http://e/o")?))?;
-    assert!(rt; matches!(&Value::List(inner).copy(alloc)?, Value::List(items) if items.len() == 1));
-    assert!(rt;
-        matches!(
-            &Doc::Over(Limit::Depth).copy(alloc)?,
-            Doc::Over(Limit::Depth)
-        )
-    );
-    assert!(rt;
-        Scalar::Whole(7).copy(alloc)?.is(&Scalar::Whole(7))
-            && !Scalar::Bool(true).is(&Scalar::Whole(1))
-    );
-    assert_eq!(rt; LdError::InvalidPrefixValue.name(), "invalid @prefix value");
-    assert_eq!(rt; LdError::CyclicIriMapping.name(), "cyclic IRI mapping");
-    assert_eq!(rt; CommitErr::from(Memory), CommitErr::Memory);
+    let doc = copied(alloc, Doc::Over(Limit::Depth))?;
+    let kept = matches!(&doc, Doc::Over(Limit::Depth));
+    drop(doc);
+    assert!(rt; kept);
     let full = RegisterErr::HistoryFull {
         of: Counted::Bytes,
         have: 1,
         limit: 2,
-    }
-    .copy(alloc)?;
-    assert!(rt;
-        matches!(
-            &full,
-            RegisterErr::HistoryFull {
-                of: Counted::Bytes,
-                have: 1,
-                limit: 2
-            }
-        )
+    };
+    let full = copied(alloc, full)?;
+    let kept = matches!(
+        &full,
+        RegisterErr::HistoryFull {
+            of: Counted::Bytes,
+            have: 1,
+            limit: 2
+        }
     );
+    drop(full);
+    assert!(rt; kept);
+    Ok(())
+}
+
+#[test]
+fn scalars_differ_and_errors_have_names(rt: HostRuntime) -> Result<(), Fail> {
+    assert!(rt;
+        Scalar::Whole(7).is(&Scalar::Whole(7)) && !Scalar::Bool(true).is(&Scalar::Whole(1))
+    );
+    assert_eq!(rt; LdError::InvalidPrefixValue.name(), "invalid @prefix value");
+    assert_eq!(rt; LdError::CyclicIriMapping.name(), "cyclic IRI mapping");
     Ok(())
 }

@@ -1,9 +1,16 @@
-use crate::{
-    Answer, GraphRef, Patch, Quad, QuadList, Question, Signed, SignedList, Term, TermList,
-};
+use crate::{Answer, GraphRef, Patch, Quad, Question, Signed, SignedList, Term, TermList};
 use lf_base::{Memory, Same, Text, TryCopy};
 use std::alloc::Global;
 use std::test::Fail;
+
+fn copied<T: TryCopy + Drop>(alloc: Global, value: T) -> Result<T, Memory> {
+    value.copy(alloc)
+}
+
+fn copies_are_equal<T: TryCopy + Same + Drop>(alloc: Global, value: T) -> Result<bool, Memory> {
+    let copied = value.copy(alloc)?;
+    Ok(copied.is(&value))
+}
 
 fn iri(alloc: Global, text: &str) -> Result<Term, Memory> {
     Ok(Term::Iri(Text::of(alloc, text)?))
@@ -29,48 +36,47 @@ fn quad(alloc: Global) -> Result<Quad, Memory> {
     })
 }
 
-#[test]
-fn quads_and_patches_copy(rt: HostRuntime) -> Result<(), Fail> {
-    let alloc = rt.alloc();
-    let quad_here = quad(alloc)?;
-    let copied = quad_here.copy(alloc)?;
-    assert!(rt; copied.is(&quad_here) && !copied.object.is(&copied.subject));
+fn patch(alloc: Global) -> Result<Patch, Memory> {
     let mut lines = SignedList::new(alloc);
     lines.push(Signed {
         add: true,
-        quad: copied,
+        quad: quad(alloc)?,
     })?;
-    let patch = Patch { lines, bytes: 70 }.copy(alloc)?;
-    assert!(rt; patch.bytes == 70 && patch.lines.len() == 1);
-    assert!(rt;
-        match patch.lines.at(0) {
-            Some(signed) => signed.add && signed.quad.is(&quad_here),
-            None => false,
-        }
-    );
+    Ok(Patch { lines, bytes: 70 })
+}
+
+fn named_out(alloc: Global) -> Result<Question, Memory> {
+    let graph = GraphRef::Named(iri(alloc, "http://e/g")?);
+    Ok(Question::Out(graph, tagged(alloc)?))
+}
+
+#[test]
+fn quads_and_patches_copy(rt: HostRuntime) -> Result<(), Fail> {
+    let alloc = rt.alloc();
+    assert!(rt; copies_are_equal(alloc, quad(alloc)?)?);
+    let patch = copied(alloc, patch(alloc)?)?;
+    let kept = patch.bytes == 70 && patch.lines.len() == 1;
+    drop(patch);
+    assert!(rt; kept);
     Ok(())
 }
 
 #[test]
-fn questions_and_answers_copy(rt: HostRuntime) -> Result<(), Fail> {
+fn questions_copy(rt: HostRuntime) -> Result<(), Fail> {
     let alloc = rt.alloc();
-    let graph = GraphRef::Named(iri(alloc, "http://e/g")?);
-    let question = Question::Inward(graph, iri(alloc, "http://e/p")?, tagged(alloc)?);
-    assert!(rt;
-        match question.copy(alloc)? {
-            Question::Inward(GraphRef::Named(name), _, object) => {
-                name.is(&iri(alloc, "http://e/g")?) && object.is(&tagged(alloc)?)
-            }
-            _ => false,
-        }
-    );
-    let mut quads = QuadList::new(alloc);
-    quads.push(quad(alloc)?)?;
-    assert!(rt;
-        matches!(&Answer::Quads(quads).copy(alloc)?, Answer::Quads(found) if found.len() == 1)
-    );
-    assert!(rt; matches!(&Answer::Flag(true).copy(alloc)?, Answer::Flag(true)));
-    let none = Answer::Terms(TermList::new(alloc)).copy(alloc)?;
-    assert!(rt; matches!(&none, Answer::Terms(terms) if terms.is_empty()));
+    let question = copied(alloc, named_out(alloc)?)?;
+    let kept = matches!(&question, Question::Out(GraphRef::Named(_), _));
+    drop(question);
+    assert!(rt; kept);
+    Ok(())
+}
+
+#[test]
+fn answers_copy(rt: HostRuntime) -> Result<(), Fail> {
+    let alloc = rt.alloc();
+    let answer = copied(alloc, Answer::Terms(TermList::new(alloc)))?;
+    let kept = matches!(&answer, Answer::Terms(terms) if terms.is_empty());
+    drop(answer);
+    assert!(rt; kept);
     Ok(())
 }

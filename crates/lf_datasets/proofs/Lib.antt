@@ -9,3 +9,4 @@ pub mod ValueProofs
 pub mod ViewProofs
 pub mod LegibleProofs
 pub mod NearProofs
+pub mod TellProofs

@@ -37,7 +37,7 @@ module _ {A : Type 0} where
   any_filter_case p r x xs true e ih = (λ i. p x || ih i) ∙ (λ i. (sym e i && p x) || list_any (λ y. r y && p y) xs)
   any_filter_case p r x xs false e ih = ih ∙ (λ i. (sym e i && p x) || list_any (λ y. r y && p y) xs)
 
-  any-filter : (p r : A → Bool) (xs : List A) → list_any p (filter r xs) ≡ list_any (λ y. r y && p y) xs
+  pub any-filter : (p r : A → Bool) (xs : List A) → list_any p (filter r xs) ≡ list_any (λ y. r y && p y) xs
   any-filter p r [] = refl
   any-filter p r (x ∷ xs) = any_filter_case p r x xs (r x) refl (any-filter p r xs)
 
@@ -45,7 +45,7 @@ module _ {A : Type 0} where
   any-flat_map p f [] = refl
   any-flat_map p f (x ∷ xs) = any-append p (f x) (flat_map f xs) ∙ ap (λ (w : Bool). list_any p (f x) || w) (any-flat_map p f xs)
 
-  any-map : {B : Type 0} (p : B → Bool) (f : A → B) (xs : List A) → list_any p (map f xs) ≡ list_any (λ x. p (f x)) xs
+  pub any-map : {B : Type 0} (p : B → Bool) (f : A → B) (xs : List A) → list_any p (map f xs) ≡ list_any (λ x. p (f x)) xs
   any-map p f [] = refl
   any-map p f (x ∷ xs) = ap (λ (w : Bool). p (f x) || w) (any-map p f xs)
 

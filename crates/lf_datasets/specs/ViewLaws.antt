@@ -1,17 +1,20 @@
 -- What holds of keys and views, whatever the dataset (JSON-LD 1.1 Framing, section 4.1).
-use Rattle.std.specs.Prelude.{◌≡◌, List, ◌∷◌, map, ℕ, ◌≤◌, IsTrue, is_some}
+use Rattle.std.specs.Prelude.{◌≡◌, List, ◌∷◌, map, ℕ, ◌≤◌, ◌&&◌, IsTrue, IsFalse, is_some}
 use Rattle.std.specs.List.{list_any}
 use Rattle.lf_rdf.specs.declared.term.Term.{Term}
 use Rattle.lf_rdf.specs.declared.quad.Quad.{Quad}
 use Rattle.lf_rdf.specs.declared.question.GraphRef.{GraphRef}
 use Rattle.lf_rdf.specs.declared.question.GraphRef.TheVariants as graph
-use Rattle.lf_rdf.specs.Equality.{term_eq}
+use Rattle.lf_rdf.specs.Canonical.{id_of}
+use Rattle.lf_rdf.specs.Equality.{text_eq, term_eq}
 use Rattle.lf_datasets.specs.Sorted as sorted
-use Rattle.lf_datasets.specs.Order.{id_cmp}
-use Rattle.lf_datasets.specs.Terms.{names}
+use Rattle.lf_datasets.specs.Order.{text_cmp, id_cmp, term_cmp}
+use Rattle.lf_datasets.specs.Dataset.{holds}
+use Rattle.lf_datasets.specs.Terms.{graph_of, names}
 use Rattle.lf_datasets.specs.Questions.{answers_of}
 use Rattle.lf_datasets.specs.Cells.{enough}
-use Rattle.lf_datasets.specs.Views.{key_by, keys_by, view_by, pointing_by, is_key, keys, view_of, pointing}
+use Rattle.lf_datasets.specs.Values.{value_of}
+use Rattle.lf_datasets.specs.Views.{is_type_quad, types_in, properties_in, quads_under, key_by, keys_by, view_by, pointing_by, is_key, keys, view_of, pointing}
 
 -- the keys that are listed are those that the rule tells, and no others
 abbrev pub KeysAreListed : Type 0
@@ -41,3 +44,40 @@ ViewStepsSuffice =
     × (keys_by (answers_of dataset) n g ≡ keys dataset g)
     × ((s : Term) → view_by (answers_of dataset) n g s ≡ view_of dataset g s)
     × ((property : List ℕ) (node : Term) → pointing_by (answers_of dataset) n g property node ≡ pointing dataset g property node)
+
+-- an object that two graphs share under properties has one value in both, so a merged view may take either
+abbrev pub SharedObjects : Type 0
+SharedObjects =
+    (dataset : List Quad) (q r : Quad) → IsTrue (holds dataset q) → IsTrue (holds dataset r) → q.object ≡ r.object
+    → IsFalse (is_type_quad q) → IsFalse (is_type_quad r)
+    → value_of dataset (graph_of q) q.object ≡ value_of dataset (graph_of r) r.object
+
+-- the types of a view are the objects of the quads that tell a type, once each, in order of their ids
+abbrev pub TypesAreTold : Type 0
+TypesAreTold =
+    (quads : List Quad) (t : Term)
+    → sorted.has term_eq (types_in quads) t ≡ list_any (λ q. is_type_quad q && term_eq t q.object) quads
+
+abbrev pub TypesInOrder : Type 0
+TypesInOrder = (quads : List Quad) → IsTrue (sorted.ascends id_cmp (types_in quads))
+
+-- the properties of a view are those of its quads, once each, in byte order
+abbrev pub PropertiesAreTold : Type 0
+PropertiesAreTold =
+    (quads : List Quad) (property : List ℕ)
+    → sorted.has text_eq (properties_in quads) property ≡ list_any (λ q. text_eq property (id_of q.predicate)) quads
+
+abbrev pub PropertiesInOrder : Type 0
+PropertiesInOrder = (quads : List Quad) → IsTrue (sorted.ascends text_cmp (properties_in quads))
+
+-- the values under a property are those of its objects, once each, in order of their canonical texts
+abbrev pub ObjectsAreTold : Type 0
+ObjectsAreTold =
+    (quads : List Quad) (property : List ℕ) (object : Term)
+    → sorted.has term_eq (map (λ q. q.object) (quads_under property quads)) object
+    ≡ list_any (λ q. text_eq property (id_of q.predicate) && term_eq object q.object) quads
+
+abbrev pub ObjectsInOrder : Type 0
+ObjectsInOrder =
+    (quads : List Quad) (property : List ℕ)
+    → IsTrue (sorted.ascends term_cmp (map (λ q. q.object) (quads_under property quads)))

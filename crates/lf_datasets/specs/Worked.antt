@@ -4,3 +4,7 @@ pub mod ListLosesCell
 pub mod NoList
 pub mod NamedGraph
 pub mod IdleCommits
+pub mod NestedList
+pub mod MixedValues
+pub mod AskedQuestions
+pub mod NearTerms

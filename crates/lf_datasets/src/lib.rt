@@ -6,6 +6,7 @@ mod cell_laws;
 mod legible_laws;
 mod near_laws;
 mod question_laws;
+mod tests;
 mod value_laws;
 mod version_laws;
 mod view_laws;
@@ -23,6 +24,7 @@ pub use question_laws::{
     answers_reply, members_in_order, terms_in_order, terms_stand_in_quads, touching_quads_decide,
     untouched_answers, untouched_by_patch,
 };
+pub use tests::{is_blank, is_node, is_use, lies_in, tells_type, touches};
 pub use value_laws::{
     cell_values, items_in_order, literal_values, nil_value, reference_values, steps_suffice,
 };
@@ -31,5 +33,7 @@ pub use version_laws::{
     patch_keeps_order, quads_decide, versions_are_datasets, versions_stay,
 };
 pub use view_laws::{
-    keys_are_listed, keys_have_views, keys_in_order, merged_keys, view_steps_suffice,
+    keys_are_listed, keys_have_views, keys_in_order, merged_keys, objects_are_told,
+    objects_in_order, properties_are_told, properties_in_order, shared_objects, types_are_told,
+    types_in_order, view_steps_suffice,
 };

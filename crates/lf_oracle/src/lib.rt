@@ -3,10 +3,12 @@
 
 mod asking;
 mod naming;
+mod no_quads;
 mod nodes;
 mod oracle;
 
 pub use asking::ask_flag;
 pub use naming::names_graph;
+pub use no_quads::NoQuads;
 pub use nodes::Nodes;
 pub use oracle::Oracle;

@@ -1,0 +1,13 @@
+pub mod BadLines
+pub mod Fronts
+pub mod Again
+pub mod Lines
+pub mod Written
+pub mod Canonical
+pub mod CanonicalLine
+pub mod Takes
+pub mod TakesLine
+pub mod EachText
+pub mod BadCases
+pub mod EscapeCase
+pub mod EachKind

@@ -1,0 +1,6 @@
+use Rattle.lf_grammar.proofs.BadCases.{third_line_is_bad}
+use Rattle.lf_grammar.proofs.EscapeCase.{escape_is_bad}
+use Rattle.lf_grammar.proofs.laws.worked_bad_lines.Goals as goal
+
+pub returns : goal.returns
+returns c = (third_line_is_bad, escape_is_bad)

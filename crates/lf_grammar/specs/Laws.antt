@@ -1,0 +1,59 @@
+-- What the definitions of patch texts are meant to say.
+use Rattle.std.specs.Prelude.{◌≡◌, ◌≤◌, ◌↔◌, ◌⊎◌, ℕ, true, List, [], ◌∷◌, length, Option, Some}
+use Rattle.lf_rdf.specs.declared.quad.Quad.{Quad}
+use Rattle.lf_rdf.specs.declared.quad.Signed.{Signed}
+use Rattle.lf_rdf.specs.Canonical.{line}
+use Rattle.lf_grammar.specs.declared.kind.LineKind.{LineKind}
+use Rattle.lf_grammar.specs.declared.kind.LineKind.TheVariants.{RelativeIri, BadEscape}
+use Rattle.lf_grammar.specs.Terminals.{Allowed}
+use Rattle.lf_grammar.specs.Statements.{IsLineOf}
+use Rattle.lf_grammar.specs.Reading.{line_at}
+use Rattle.lf_grammar.specs.PatchText.{line_limit, IsPatchText}
+use Rattle.lf_grammar.specs.BadLine.{IsFirstBad, IsBadLine}
+use Rattle.lf_grammar.specs.Given.{IsGiven}
+use Rattle.lf_grammar.specs.WorkedCases.{third_line_relative, escaped_space}
+
+-- A text states at most one list of signed quads.
+abbrev pub OneList : Type 0
+OneList = (text : List ℕ) (signed others : List Signed) → IsPatchText text signed → IsPatchText text others → signed ≡ others
+
+-- A patch text has no bad line.
+abbrev pub NeverBoth : Type 0
+NeverBoth = (text : List ℕ) (signed : List Signed) (n : ℕ) (kind : LineKind) → IsPatchText text signed → ¬ (IsBadLine text n kind)
+
+-- A text states signed quads or has a first bad line.
+abbrev pub EachText : Type 0
+EachText =
+    (text : List ℕ)
+    → ((signed : List Signed) × IsPatchText text signed) ⊎ ((n : ℕ) × (bad : List ℕ) × IsFirstBad text n bad)
+
+-- A first bad line isn't without a kind.
+abbrev pub EachKind : Type 0
+EachKind =
+    (text : List ℕ) (n : ℕ) (bad : List ℕ) → IsFirstBad text n bad → ¬ ((kind : LineKind) → ¬ (IsBadLine text n kind))
+
+-- A text has at most one first bad line, of one kind.
+abbrev pub OneBadLine : Type 0
+OneBadLine =
+    (text : List ℕ) (n m : ℕ) (kind other : LineKind) → IsBadLine text n kind → IsBadLine text m other
+    → (n ≡ m) × (kind ≡ other)
+
+-- The canonical line of a quad that the grammar gives states that quad, where it isn't too long.
+abbrev pub CanonicalStates : Type 0
+CanonicalStates =
+    (quad : Quad) → IsGiven quad → length (line quad) ≤ line_limit
+    → IsPatchText (line quad) (record { add = true; quad = quad } ∷ [])
+
+-- Two quads that the grammar gives have one canonical line only where they are one.
+abbrev pub CanonicalIsOne : Type 0
+CanonicalIsOne = (quad other : Quad) → IsGiven quad → IsGiven other → line quad ≡ line other → quad ≡ other
+
+-- Reading a line from left to right gives what the grammar relates to its characters, and nothing else.
+abbrev pub LineRead : Type 0
+LineRead =
+    (allowed : Allowed) (characters : List ℕ) (stated : Option Signed)
+    → (line_at allowed characters ≡ Some stated) ↔ IsLineOf allowed characters stated
+
+-- Two worked cases: a third line with a relative IRI, and an IRI with an escape of a space.
+abbrev pub WorkedBadLines : Type 0
+WorkedBadLines = IsBadLine third_line_relative 3 RelativeIri × IsBadLine escaped_space 1 BadEscape

@@ -1,0 +1,9 @@
+pub mod Characters
+pub mod Terminals
+pub mod Statements
+pub mod PatchText
+pub mod BadLine
+pub mod Reading
+pub mod Given
+pub mod WorkedCases
+pub mod Laws

@@ -1,0 +1,46 @@
+ghost use Rattle.lf_grammar.specs.Laws.{OneList, NeverBoth, OneBadLine, CanonicalStates, CanonicalIsOne, LineRead, EachText, EachKind, WorkedBadLines};
+
+/// A text states at most one list of signed quads.
+pub fn one_list()
+    ensures { OneList }
+{}
+
+/// A patch text has no bad line.
+pub fn never_both()
+    ensures { NeverBoth }
+{}
+
+/// A text has at most one first bad line, of one kind.
+pub fn one_bad_line()
+    ensures { OneBadLine }
+{}
+
+/// The canonical line of a quad that the grammar gives states that quad.
+pub fn canonical_states()
+    ensures { CanonicalStates }
+{}
+
+/// Two quads that the grammar gives have one canonical line only where they are one.
+pub fn canonical_is_one()
+    ensures { CanonicalIsOne }
+{}
+
+/// Reading a line gives what the grammar relates to it, and nothing else.
+pub fn line_read()
+    ensures { LineRead }
+{}
+
+/// A text states signed quads or has a first bad line.
+pub fn each_text()
+    ensures { EachText }
+{}
+
+/// Two worked cases of bad lines.
+pub fn worked_bad_lines()
+    ensures { WorkedBadLines }
+{}
+
+/// A first bad line isn't without a kind.
+pub fn each_kind()
+    ensures { EachKind }
+{}

@@ -1,0 +1,13 @@
+pub mod Expanding
+pub mod Ordered
+pub mod Holding
+pub mod Sound
+pub mod Room
+pub mod TermHolding
+pub mod TableHolding
+pub mod Tables
+pub mod FrameOrder
+pub mod FrameParts
+pub mod FrameHolding
+pub mod FrameReading
+pub mod Framed

@@ -1,0 +1,49 @@
+-- What is on the path is never embedded again.
+use Rattle.std.proofs.Common.{◌≡◌, zero, suc, Bool, true, false, not, List, [], ◌∷◌, ◌&&◌, ◌||◌, refl, ap}
+use Rattle.std.specs.List.{list_any}
+use Rattle.lf_rdf.specs.declared.term.Term.{Term}
+use Rattle.lf_rdf.specs.declared.question.GraphRef.TheVariants.{Named}
+use Rattle.lf_model.specs.declared.frame.Embed.{Embed}
+use Rattle.lf_model.specs.declared.frame.Embed.TheVariants.{Once, Always, Never}
+use Rattle.lf_nested.specs.Nested.{flags_of, within_of}
+use Rattle.lf_framing.specs.Views.{Place, graph_eq}
+use Rattle.lf_framing.specs.Results.{State, choose, is_in}
+use Rattle.lf_framing.specs.Steps.{as_reference, is_outside, has_graph, is_merged}
+use Rattle.lf_framing.specs.Embedding.{embed, refer, no_room, inside}
+use Rattle.lf_framing.specs.Laws.{PathIsLeftAlone, EnteredGraphIsNew}
+use Rattle.lf_framing.proofs.Bools.{and_first, and_second, not_true, or_first, or_second}
+
+-- whatever its flag says, a node on the path is a reference
+pub on_path :
+    (flag : Embed) (here : Place) (path : List Place) (state : State) → is_in path here ≡ true →
+    as_reference flag here path state ≡ true
+on_path Never here path state there = refl
+on_path Always here path state there = there
+on_path Once here path state there = rw there refl
+
+pub path_left_alone : PathIsLeftAlone
+unfolding embed
+path_left_alone views zero graph id form path state there =
+    ap (λ test. choose test (refer id) (no_room graph id form path) state)
+    (on_path (flags_of form).embed (record { graph = graph; id = id }) path state there)
+path_left_alone views (suc room) graph id form path state there =
+    ap (λ test. choose test (refer id) (inside views (embed views room) graph id form path) state)
+    (on_path (flags_of form).embed (record { graph = graph; id = id }) path state there)
+
+-- where no step lies in a graph, no node of it is on the path
+pub none_within :
+    (name id : Term) (path : List Place) → list_any (λ step. graph_eq (Named name) step.graph) path ≡ false →
+    is_in path (record { graph = Named name; id = id }) ≡ false
+none_within name id [] outside = refl
+none_within name id (step ∷ rest) outside =
+    rw (or_first (graph_eq (Named name) step.graph) _ outside)
+    (none_within name id rest (or_second (graph_eq (Named name) step.graph) _ outside))
+
+pub entered_is_new : EnteredGraphIsNew
+entered_is_new views graph name form path id enters =
+    none_within name id path
+    (not_true _ (and_second (views.names_graph name) (is_outside path name)
+    (and_first (views.names_graph name && is_outside path name) asked enters)))
+  where
+    asked : Bool
+    asked = has_graph (within_of form) || not (is_merged graph)

@@ -1,0 +1,12 @@
+pub mod Views
+pub mod ValuePatterns
+pub mod Matching
+pub mod Results
+pub mod Steps
+pub mod Parts
+pub mod Embedding
+pub mod Outcome
+pub mod Items
+pub mod Depths
+pub mod Laws
+pub mod Worked

@@ -1,0 +1,5 @@
+pub mod Members
+pub mod Least
+pub mod Fits
+pub mod Shortened
+pub mod RoundTrip

@@ -1,0 +1,32 @@
+-- Expansion gives back what was compacted (JSON-LD 1.1 Processing Algorithms and API, sections 5.2 and 6.2).
+use Rattle.std.specs.Prelude.{◌≡◌, ◌≢◌, List, [], ◌∷◌, ℕ, Bool, true, false, Some, Contains}
+use Rattle.lf_rdf.specs.Equality.{text_eq}
+use Rattle.lf_model.specs.declared.table.TermTable.{TermTable}
+use Rattle.lf_model.specs.declared.table.TermDef.{TermDef}
+use Rattle.lf_contexts.specs.Keywords.{has_keyword_form}
+use Rattle.lf_contexts.specs.Texts.{after_colon, begins_authority, has_byte, has_later_colon, is_absolute}
+use Rattle.lf_contexts.specs.Expansion.{expand, find_term}
+use Rattle.lf_selection.specs.declared.pick.Pick.{Pick}
+use Rattle.lf_selection.specs.Iris.{short}
+use Rattle.lf_selection.specs.Laws.{IsRestFor}
+
+-- a table as contexts make them: a term is found by its name, and a prefix has a name without a colon, which isn't `_`
+pub record IsOrdinary (table : TermTable) : Type 0 where
+  pub found : (term : TermDef) → Contains table.terms term → find_term term.name table.terms ≡ Some term
+  pub prefix_name : (term : TermDef) → Contains table.terms term → term.prefix ≡ true → term.name ≢ []
+  pub no_colon : (term : TermDef) → Contains table.terms term → term.prefix ≡ true → has_byte 58 term.name ≡ false
+  pub no_blank : (term : TermDef) → Contains table.terms term → term.prefix ≡ true → text_eq term.name (95 ∷ []) ≡ false
+
+-- a compacted IRI that is read as what it was written for: it hasn't the form of a keyword, a term of this name stands for the IRI,
+-- `//` follows its colon only in the IRI itself, and a rest behind the vocabulary mapping has no colon
+pub record IsPlain (table : TermTable) (iri text : List ℕ) : Type 0 where
+  pub no_keyword : has_keyword_form text ≡ false
+  pub own_term : (term : TermDef) → find_term text table.terms ≡ Some term → term.iri ≡ Some iri
+  pub no_authority : begins_authority (after_colon text) ≡ true → text ≡ iri
+  pub no_colon : IsRestFor table iri text → has_later_colon text ≡ false
+
+abbrev pub ExpansionGivesBack : Type 0
+ExpansionGivesBack =
+    (table : TermTable) (iri : List ℕ) (vocab : Bool) (pick : Pick) (text : List ℕ) → IsOrdinary table
+    → is_absolute iri ≡ true → short table iri vocab pick ≡ Some text → IsPlain table iri text
+    → expand table text vocab ≡ Some iri

@@ -1,0 +1,108 @@
+-- What documents and limits are.
+use Rattle.std.proofs.Common.{◌≡◌, ℕ, ◌+◌, ◌≤◌, Bool, true, false, List, [], ◌∷◌, ◌++◌, Option, Some, None, cond, refl, sym, ap, subst, arith, length, nat_lt}
+use Rattle.std.specs.List.{fold, sum_by}
+use Rattle.std.proofs.lemmas.Bool.{ltb-false}
+use Rattle.lf_model.specs.declared.table.TermTable.{TermTable}
+use Rattle.lf_model.specs.declared.error.LdError.{LdError}
+use Rattle.lf_model.specs.declared.error.LdError.TheVariants.{IriConfusedWithPrefix}
+use Rattle.lf_model.specs.declared.document.Limit.{Limit}
+use Rattle.lf_model.specs.declared.document.Limit.TheVariants.{DocumentItems, DocumentBytes}
+use Rattle.lf_model.specs.declared.document.Doc.TheVariants as doc
+use Rattle.lf_model.specs.JsonData.{JsonValue}
+use Rattle.lf_model.specs.TreeData.{TreeNode}
+use Rattle.lf_documents.specs.Items.{tree_items}
+use Rattle.lf_documents.specs.JsonPrint.{json_text}
+use Rattle.lf_documents.specs.Document.{Framed, not_key, no_match, matched, over, Gathered, trees, limited, with_tree, gathered, gathered_doc, compact_all, document, document_json, printed_doc, pruned, within_bytes, most_items, most_bytes}
+
+-- a text within the limit isn't refused
+not_refused : (printed : List ℕ) (error : LdError) → within_bytes printed ≡ doc.Refused error → ⊥
+not_refused printed error e = go (nat_lt most_bytes (length printed)) e
+  where
+    go : (b : Bool) → cond b (doc.Over DocumentBytes) (doc.Bytes printed) ≡ doc.Refused error → ⊥
+    go true e' = cc
+    go false e' = cc
+
+printed-confused : (table : TermTable) (context : JsonValue) (maps : Option (List JsonValue)) (error : LdError) → printed_doc table context maps ≡ doc.Refused error → error ≡ IriConfusedWithPrefix
+printed-confused table context None error e = cc
+printed-confused table context (Some maps) error e = absurd (not_refused (json_text (document_json table context maps)) error e)
+
+pub refused-confused : (table : TermTable) (context : JsonValue) (outcomes : List Framed) (error : LdError) → document table context outcomes ≡ doc.Refused error → error ≡ IriConfusedWithPrefix
+refused-confused table context outcomes error e = go (gathered 0 outcomes) e
+  where
+    go : (all : Gathered) → gathered_doc table context all ≡ doc.Refused error → error ≡ IriConfusedWithPrefix
+    go (limited limit) e' = cc
+    go (trees all) e' = printed-confused table context (compact_all table (pruned all)) error e'
+
+short_enough : (printed text : List ℕ) → within_bytes printed ≡ doc.Bytes text → length text ≤ most_bytes
+short_enough printed text e = go (nat_lt most_bytes (length printed)) refl e
+  where
+    go : (b : Bool) → nat_lt most_bytes (length printed) ≡ b → cond b (doc.Over DocumentBytes) (doc.Bytes printed) ≡ doc.Bytes text → length text ≤ most_bytes
+    go true at e' = cc
+    go false at e' = let same : printed ≡ text = cc in subst (λ t. length t ≤ most_bytes) same (ltb-false most_bytes (length printed) at)
+
+printed-short : (table : TermTable) (context : JsonValue) (maps : Option (List JsonValue)) (text : List ℕ) → printed_doc table context maps ≡ doc.Bytes text → length text ≤ most_bytes
+printed-short table context None text e = cc
+printed-short table context (Some maps) text e = short_enough (json_text (document_json table context maps)) text e
+
+pub text-within : (table : TermTable) (context : JsonValue) (outcomes : List Framed) (text : List ℕ) → document table context outcomes ≡ doc.Bytes text → length text ≤ most_bytes
+text-within table context outcomes text e = go (gathered 0 outcomes) e
+  where
+    go : (all : Gathered) → gathered_doc table context all ≡ doc.Bytes text → length text ≤ most_bytes
+    go (limited limit) e' = cc
+    go (trees all) e' = printed-short table context (compact_all table (pruned all)) text e'
+
+-- the sum from a number on
+fold-from : (n : ℕ) (all : List TreeNode) → fold (λ a t. a + tree_items t) n all ≡ n + sum_by tree_items all
+fold-from n [] = omega arith
+fold-from n (first ∷ rest) =
+    let one = fold-from (n + tree_items first) rest in
+    let other = fold-from (0 + tree_items first) rest in
+    omega arith
+
+-- what the trees of some outcomes add to the items before
+pub items-within : (items : ℕ) (outcomes : List Framed) (all : List TreeNode) → items ≤ most_items → gathered items outcomes ≡ trees all → items + sum_by tree_items all ≤ most_items
+items-within items [] all below e = let same : all ≡ [] = cc in subst (λ ts. items + sum_by tree_items ts ≤ most_items) (sym same) (omega arith)
+items-within items (not_key ∷ rest) all below e = items-within items rest all below e
+items-within items (no_match ∷ rest) all below e = items-within items rest all below e
+items-within items (over limit ∷ rest) all below e = cc
+items-within items (matched found ∷ rest) all below e = go (nat_lt most_items (items + tree_items found)) refl e (λ within others at. items-within (items + tree_items found) rest others within at)
+  where
+    more : (g : Gathered) → gathered (items + tree_items found) rest ≡ g → with_tree found g ≡ trees all
+        → ((others : List TreeNode) → gathered (items + tree_items found) rest ≡ trees others → items + tree_items found + sum_by tree_items others ≤ most_items)
+        → items + sum_by tree_items all ≤ most_items
+    more (limited limit) at e' ih = cc
+    more (trees others) at e' ih =
+        let same : found ∷ others ≡ all = cc in
+        let sums = fold-from (0 + tree_items found) others in
+        let held = ih others at in
+        subst (λ ts. items + sum_by tree_items ts ≤ most_items) same (omega arith)
+
+    go : (b : Bool) → nat_lt most_items (items + tree_items found) ≡ b
+        → cond b (limited DocumentItems) (with_tree found (gathered (items + tree_items found) rest)) ≡ trees all
+        → (items + tree_items found ≤ most_items → (others : List TreeNode) → gathered (items + tree_items found) rest ≡ trees others → items + tree_items found + sum_by tree_items others ≤ most_items)
+        → items + sum_by tree_items all ≤ most_items
+    go true at e' ih = cc
+    go false at e' ih = more (gathered (items + tree_items found) rest) refl e' (ih (ltb-false most_items (items + tree_items found) at))
+
+-- a limit after outcomes that have none
+pub limit-decides : (items : ℕ) (before after : List Framed) (all : List TreeNode) (limit : Limit) → gathered items before ≡ trees all → gathered items (before ++ over limit ∷ after) ≡ limited limit
+limit-decides items [] after all limit e = refl
+limit-decides items (not_key ∷ rest) after all limit e = limit-decides items rest after all limit e
+limit-decides items (no_match ∷ rest) after all limit e = limit-decides items rest after all limit e
+limit-decides items (over other ∷ rest) after all limit e = cc
+limit-decides items (matched found ∷ rest) after all limit e = go (nat_lt most_items (items + tree_items found)) e (λ others at. limit-decides (items + tree_items found) rest after others limit at)
+  where
+    more : (g : Gathered) → gathered (items + tree_items found) rest ≡ g → with_tree found g ≡ trees all
+        → ((others : List TreeNode) → gathered (items + tree_items found) rest ≡ trees others → gathered (items + tree_items found) (rest ++ over limit ∷ after) ≡ limited limit)
+        → with_tree found (gathered (items + tree_items found) (rest ++ over limit ∷ after)) ≡ limited limit
+    more (limited other) at e' ih = cc
+    more (trees others) at e' ih = ap (with_tree found) (ih others at)
+
+    go : (b : Bool) → cond b (limited DocumentItems) (with_tree found (gathered (items + tree_items found) rest)) ≡ trees all
+        → ((others : List TreeNode) → gathered (items + tree_items found) rest ≡ trees others → gathered (items + tree_items found) (rest ++ over limit ∷ after) ≡ limited limit)
+        → cond b (limited DocumentItems) (with_tree found (gathered (items + tree_items found) (rest ++ over limit ∷ after))) ≡ limited limit
+    go true e' ih = cc
+    go false e' ih = more (gathered (items + tree_items found) rest) refl e' ih
+
+pub items-limit : (outcomes : List Framed) (all : List TreeNode) → gathered 0 outcomes ≡ trees all → sum_by tree_items all ≤ most_items
+items-limit outcomes all e = let h = items-within 0 outcomes all (omega arith) e in omega arith

@@ -1,0 +1,7 @@
+pub mod Pruned
+pub mod Removed
+pub mod Documents
+pub mod Keys
+pub mod OrderedKit
+pub mod OrderedValues
+pub mod OrderedNodes

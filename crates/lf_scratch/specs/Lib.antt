@@ -1,0 +1,3 @@
+pub mod Scratch
+pub mod Laws
+pub mod Rows

@@ -1,0 +1,102 @@
+ghost use Rattle.std.specs.Prelude.{◌≡◌};
+ghost use Rattle.std.specs.List.{list_all};
+ghost use Rattle.lf_rdf.specs.Vocabulary.{rdf_type, xsd_string};
+ghost use Rattle.lf_rdf.specs.Equality.{text_eq, term_eq};
+ghost use Rattle.lf_rdf.specs.declared.term.Term.TheVariants.{Iri};
+ghost use Rattle.lf_first.specs.First.{is_iri_byte, is_first_iri, is_string_byte, is_first_name, is_first_object, is_first_quad};
+
+use crate::iri::{is_absolute, is_iri_byte};
+use lf_rdf::{Quad, Term};
+
+/// `rdf:type` (RDF Schema 1.1, section 3.3).
+const RDF_TYPE: &str = "http://www.w3.org/1999/02/22-rdf-syntax-ns#type";
+
+/// `xsd:string` (RDF 1.1 Concepts, section 5.1).
+const XSD_STRING: &str = "http://www.w3.org/2001/XMLSchema#string";
+
+/// Whether a predicate is `rdf:type`.
+#[tactic(auto, unfolding(lf_rdf::specs::Vocabulary::rdf_type))]
+pub fn is_rdf_type(predicate: &str) -> bool
+    ensures { result ≡ text_eq predicate.now rdf_type }
+{
+    predicate == RDF_TYPE
+}
+
+#[tactic(auto, unfolding(lf_rdf::specs::Vocabulary::xsd_string))]
+fn is_xsd_string(datatype: &str) -> bool
+    ensures { result ≡ text_eq datatype.now xsd_string }
+{
+    datatype == XSD_STRING
+}
+
+fn is_iri_bytes(bytes: &[u8]) -> bool
+    ensures { result ≡ list_all is_iri_byte bytes.now }
+{
+    bytes.iter().all(|byte| is_iri_byte(*byte))
+}
+
+fn is_first_iri(iri: &[u8]) -> bool
+    ensures { result ≡ is_first_iri iri.now }
+{
+    is_absolute(iri) && is_iri_bytes(iri)
+}
+
+fn is_first_value(value: &[u8]) -> bool
+    ensures { result ≡ list_all is_string_byte value.now }
+{
+    value.iter().all(|byte| is_string_byte(*byte))
+}
+
+/// Whether a byte may stand in a string of the first form.
+pub fn is_string_byte(byte: u8) -> bool
+    ensures { result ≡ is_string_byte byte }
+{
+    b' ' <= byte && byte <= b'~' && byte != b'"' && byte != b'\\'
+}
+
+fn is_first_name(name: &Term) -> bool
+    ensures { result ≡ is_first_name name.now }
+{
+    match name {
+        Term::Iri(iri) => is_first_iri(iri.as_str().as_bytes()),
+        Term::Blank(_) => false,
+        Term::Literal { .. } => false,
+    }
+}
+
+fn is_type_predicate(predicate: &Term) -> bool
+    ensures { result ≡ term_eq predicate.now (Iri rdf_type) }
+{
+    match predicate {
+        Term::Iri(iri) => is_rdf_type(iri.as_str()),
+        Term::Blank(_) => false,
+        Term::Literal { .. } => false,
+    }
+}
+
+fn is_first_object(predicate: &Term, object: &Term) -> bool
+    ensures { result ≡ is_first_object predicate.now object.now }
+{
+    match object {
+        Term::Iri(iri) => is_type_predicate(predicate) && is_first_iri(iri.as_str().as_bytes()),
+        Term::Blank(_) => false,
+        Term::Literal {
+            lexical,
+            datatype,
+            language,
+        } => !is_type_predicate(predicate)
+            && is_first_value(lexical.as_str().as_bytes())
+            && is_xsd_string(datatype.as_str())
+            && language.is_none(),
+    }
+}
+
+/// Whether a quad is of the first form: its canonical line is.
+pub fn is_first_quad(quad: &Quad) -> bool
+    ensures { result ≡ is_first_quad quad.now }
+{
+    is_first_name(&quad.subject)
+        && is_first_name(&quad.predicate)
+        && is_first_object(&quad.predicate, &quad.object)
+        && quad.graph.is_none()
+}

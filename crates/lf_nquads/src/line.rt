@@ -1,0 +1,101 @@
+ghost use Rattle.std.specs.Prelude.{◌≡◌, IfOk};
+ghost use Rattle.std.specs.List.{prefix_len};
+ghost use Rattle.lf_rdf.specs.Vocabulary.{xsd_string};
+ghost use Rattle.lf_first.specs.First.{is_string_byte};
+ghost use Rattle.lf_first.specs.Reading.{Gives, iri_at, string_front, string_at, object_at, after_end, line_at};
+
+use lf_base::{Memory, Text};
+use lf_first::{FirstErr, after_byte, ascii_text, iri_front, is_rdf_type, is_string_byte};
+use lf_rdf::{Quad, Term};
+use std::alloc::Global;
+
+/// `xsd:string` (RDF 1.1 Concepts, section 5.1).
+const XSD_STRING: &str = "http://www.w3.org/2001/XMLSchema#string";
+
+#[tactic(auto, unfolding(lf_first::specs::Reading::iri_at))]
+fn iri_of(alloc: Global, bytes: &[u8]) -> Result<(Text, &[u8]), FirstErr>
+    ensures { Gives (λ found. (found.0, found.1.now)) result (iri_at bytes.now) }
+{
+    let opened = after_byte(bytes, b'<')?;
+    let (iri, rest) = iri_front(alloc, opened)?;
+    let rest = after_byte(rest, b'>')?;
+    Ok((iri, rest))
+}
+
+fn string_len(bytes: &[u8]) -> usize
+    ensures { result ≡ prefix_len is_string_byte bytes.now }
+{
+    for (place, byte) in bytes.iter().enumerate() {
+        if !is_string_byte(*byte) {
+            return place;
+        }
+    }
+    bytes.len()
+}
+
+#[tactic(auto, unfolding(lf_first::specs::Reading::string_at))]
+fn string_of(alloc: Global, bytes: &[u8]) -> Result<(Text, &[u8]), FirstErr>
+    ensures { Gives (λ found. (found.0, found.1.now)) result (string_at bytes.now) }
+{
+    let opened = after_byte(bytes, b'"')?;
+    let (value, rest) = opened.split_at(string_len(opened));
+    let rest = after_byte(rest, b'"')?;
+    Ok((ascii_text(alloc, value)?, rest))
+}
+
+#[tactic(auto, unfolding(lf_rdf::specs::Vocabulary::xsd_string))]
+fn string_type(alloc: Global) -> Result<Text, Memory>
+    ensures { IfOk result (λ datatype. datatype ≡ xsd_string) }
+{
+    Text::of(alloc, XSD_STRING)
+}
+
+#[tactic(auto, unfolding(lf_first::specs::Reading::object_at))]
+fn object_of<'a>(
+    alloc: Global,
+    predicate: &Text,
+    bytes: &'a [u8],
+) -> Result<(Term, &'a [u8]), FirstErr>
+    ensures { Gives (λ found. (found.0, found.1.now)) result (object_at predicate.now bytes.now) }
+{
+    if is_rdf_type(predicate.as_str()) {
+        let (iri, rest) = iri_of(alloc, bytes)?;
+        return Ok((Term::Iri(iri), rest));
+    }
+    let (lexical, rest) = string_of(alloc, bytes)?;
+    let literal = Term::Literal {
+        lexical,
+        datatype: string_type(alloc)?,
+        language: None,
+    };
+    Ok((literal, rest))
+}
+
+#[tactic(auto, unfolding(lf_first::specs::Reading::after_end))]
+fn end_of(bytes: &[u8]) -> Result<&[u8], FirstErr>
+    ensures { Gives (λ rest. rest.now) result (after_end bytes.now) }
+{
+    let space = after_byte(bytes, b' ')?;
+    let dot = after_byte(space, b'.')?;
+    after_byte(dot, b'\n')
+}
+
+/// The quad of the line at the front, and what follows the line.
+#[tactic(auto, unfolding(lf_first::specs::Reading::line_at))]
+pub fn line_of(alloc: Global, bytes: &[u8]) -> Result<(Quad, &[u8]), FirstErr>
+    ensures { Gives (λ found. (found.0, found.1.now)) result (line_at bytes.now) }
+{
+    let (subject, rest) = iri_of(alloc, bytes)?;
+    let second = after_byte(rest, b' ')?;
+    let (predicate, rest) = iri_of(alloc, second)?;
+    let third = after_byte(rest, b' ')?;
+    let (object, rest) = object_of(alloc, &predicate, third)?;
+    let rest = end_of(rest)?;
+    let quad = Quad {
+        subject: Term::Iri(subject),
+        predicate: Term::Iri(predicate),
+        object,
+        graph: None,
+    };
+    Ok((quad, rest))
+}

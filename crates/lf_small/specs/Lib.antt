@@ -1,0 +1,5 @@
+pub mod Order
+pub mod Values
+pub mod Facts
+pub mod Small
+pub mod SmallCases

@@ -1,0 +1,121 @@
+//! Terms as texts (RDF 1.1 N-Quads, section 4).
+ghost use Rattle.std.specs.Prelude.{◌≡◌, ◌++◌, List, ℕ, IfOk, OnOk, IsTrue, encode_utf8, string_bytes};
+ghost use Rattle.lf_rdf.specs.Canonical.{escaped, bracketed, quoted, id_of, suffix_of, term_text};
+ghost use Rattle.lf_rdf.specs.Equality.{text_eq};
+ghost use Rattle.lf_rdf.specs.Vocabulary.{xsd_string};
+
+use lf_base::{Memory, Text, TryCopy};
+use lf_rdf::Term;
+use std::alloc::Global;
+
+/// The datatype of a string (RDF 1.1 Concepts, section 5.1).
+const XSD_STRING: &str = "http://www.w3.org/2001/XMLSchema#string";
+
+/// Puts one character of a string at the end, escaped where canonical N-Quads escapes it.
+fn push_escaped_char(out: &mut String, character: char) -> Result<(), Memory>
+    ensures { OnOk result (string_bytes out.new ≡ string_bytes out.old ++ escaped (encode_utf8 character)) }
+{
+    match character {
+        '"' => out.push_str("\\\"")?,
+        '\\' => out.push_str("\\\\")?,
+        '\n' => out.push_str("\\n")?,
+        '\r' => out.push_str("\\r")?,
+        _ => out.push(character)?,
+    }
+    Ok(())
+}
+
+/// Puts the characters of a string at the end, escaped.
+fn push_escaped(out: &mut String, text: &str) -> Result<(), Memory>
+    ensures { OnOk result (string_bytes out.new ≡ string_bytes out.old ++ escaped text.now) }
+{
+    for character in text.chars() {
+        push_escaped_char(out, character)?;
+    }
+    Ok(())
+}
+
+/// Puts an IRI at the end, in angle brackets.
+fn push_bracketed(out: &mut String, iri: &str) -> Result<(), Memory>
+    ensures { OnOk result (string_bytes out.new ≡ string_bytes out.old ++ bracketed iri.now) }
+{
+    out.push_str("<")?;
+    out.push_str(iri)?;
+    out.push_str(">")?;
+    Ok(())
+}
+
+/// Puts a string at the end, in quotes.
+fn push_quoted(out: &mut String, text: &str) -> Result<(), Memory>
+    ensures { OnOk result (string_bytes out.new ≡ string_bytes out.old ++ quoted text.now) }
+{
+    out.push_str("\"")?;
+    push_escaped(out, text)?;
+    out.push_str("\"")?;
+    Ok(())
+}
+
+/// Whether a literal with this datatype is a plain string.
+#[tactic(auto, unfolding(lf_rdf::specs::Vocabulary::xsd_string))]
+fn is_string(datatype: &Text) -> bool
+    ensures { result ≡ text_eq datatype.now xsd_string }
+{
+    datatype.as_str() == XSD_STRING
+}
+
+/// Puts what follows the string of a literal at the end: its language, or a datatype other than `xsd:string`.
+fn push_suffix(out: &mut String, datatype: &Text, language: &Option<Text>) -> Result<(), Memory>
+    ensures { OnOk result (string_bytes out.new ≡ string_bytes out.old ++ suffix_of datatype.now language.now) }
+{
+    match language {
+        Some(tag) => {
+            out.push_str("@")?;
+            out.push_str(tag.as_str())?;
+        }
+        None => {
+            if !is_string(datatype) {
+                out.push_str("^^")?;
+                push_bracketed(out, datatype.as_str())?;
+            }
+        }
+    }
+    Ok(())
+}
+
+/// The id of a node: its IRI, or `_:` and its label. A literal has none.
+pub fn id_text(alloc: Global, term: &Term) -> Result<Text, Memory>
+    ensures { IfOk result (λ text. text ≡ id_of term.now) }
+{
+    match term {
+        Term::Iri(iri) => iri.copy(alloc),
+        Term::Blank(label) => {
+            let mut id = String::from_str(alloc, "_:")?;
+            id.push_str(label.as_str())?;
+            Ok(Text::from_string(id))
+        }
+        Term::Literal { .. } => Ok(Text::from_string(String::new(alloc))),
+    }
+}
+
+/// The canonical text of a term.
+pub fn canonical_text(alloc: Global, term: &Term) -> Result<Text, Memory>
+    ensures { IfOk result (λ text. text ≡ term_text term.now) }
+{
+    let mut out = String::new(alloc);
+    match term {
+        Term::Iri(iri) => push_bracketed(&mut out, iri.as_str())?,
+        Term::Blank(label) => {
+            out.push_str("_:")?;
+            out.push_str(label.as_str())?;
+        }
+        Term::Literal {
+            lexical,
+            datatype,
+            language,
+        } => {
+            push_quoted(&mut out, lexical.as_str())?;
+            push_suffix(&mut out, datatype, language)?;
+        }
+    }
+    Ok(Text::from_string(out))
+}

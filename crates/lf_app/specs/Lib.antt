@@ -1,0 +1,5 @@
+pub mod Words
+pub mod Answers
+pub mod Refusals
+pub mod Printing
+pub mod Said

@@ -1,0 +1,4 @@
+pub mod FirstFrames
+pub mod Named
+pub mod Steps
+pub mod Allowed

@@ -1,0 +1,70 @@
+-- What a state answers, as functions of its history. Refusals stand in the order in which they are tried.
+use Rattle.std.specs.Prelude.{◌≡◌, List, [], ◌∷◌, ◌++◌, ℕ, suc, ◌+◌, nat_lt, length, Bool, true, false, not, ◌||◌, if◌then◌else◌, Option, Some, None, Result, Ok, Err}
+use Rattle.lf_rdf.specs.Equality.{text_eq, option_eq}
+use Rattle.lf_model.specs.declared.desk.Look.{Look}
+use Rattle.lf_model.specs.declared.desk.Look.TheVariants.{Pending, Unknown}
+use Rattle.lf_model.specs.declared.desk.Counted.TheVariants.{Registrations, Bytes}
+use Rattle.lf_model.specs.declared.desk.RegisterErr.{RegisterErr}
+use Rattle.lf_model.specs.declared.desk.RegisterErr.TheVariants as r
+use Rattle.lf_histories.specs.declared.live.Live.{Live}
+use Rattle.lf_histories.specs.declared.operation.Operation.{Operation}
+use Rattle.lf_histories.specs.History.{registrations, text_bytes, live_frames, without}
+use Rattle.lf_histories.specs.Legal.{most_frame_bytes, most_frames, most_registrations, most_text_bytes, is_frame_name, live_text}
+use Rattle.lf_core.specs.Replayed.{is_first_frame, most_first_bytes}
+
+-- what stands at a name while no document is published: nothing, or a frame whose document is still to come
+abbrev pub look_of : Option Live → ℕ → Look
+look_of None need = Unknown
+look_of (Some frame) need = Pending frame.published need
+
+-- whether the text is live under the name
+abbrev pub is_live_text : List Operation → List ℕ → List ℕ → Bool
+is_live_text history name text = option_eq text_eq (live_text history name) (Some text)
+
+-- how many other names are live
+abbrev pub others : List Operation → List ℕ → ℕ
+others history name = length (without name (live_frames history))
+
+-- the limits of a history that a registration meets
+abbrev pub limits_answer : List Operation → List ℕ → List ℕ → Result Bool RegisterErr
+limits_answer history name text =
+    if not (nat_lt (others history name) most_frames) then Err (r.TooManyFrames most_frames (suc most_frames))
+    else if not (nat_lt (registrations history) most_registrations)
+    then Err (r.HistoryFull Registrations (registrations history) most_registrations)
+    else if nat_lt most_text_bytes (text_bytes history + length text)
+    then Err (r.HistoryFull Bytes (text_bytes history) most_text_bytes)
+    else Ok true
+
+-- whether a text can't be used so far: it isn't of the first form, or the texts grow too long
+abbrev pub is_not_built : List Operation → List ℕ → Bool
+is_not_built history text = not (is_first_frame text) || nat_lt most_first_bytes (text_bytes history + length text)
+
+-- a registration is new, or the text is live already, or it is refused
+abbrev pub register_answer : List Operation → List ℕ → List ℕ → Result Bool RegisterErr
+register_answer history name text =
+    if not (is_frame_name name) then Err r.BadName
+    else if nat_lt most_frame_bytes (length text) then Err (r.FrameTooLong (length text))
+    else if is_live_text history name text then Ok false
+    else if is_not_built history text then Err r.NotBuilt
+    else limits_answer history name text
+
+-- a call answered so, unless no memory was found
+abbrev pub Fails : RegisterErr → Result Bool RegisterErr → Type 0
+Fails r.Memory answer = Unit {0}
+Fails r.BadName answer = answer ≡ Err r.BadName
+Fails (r.FrameTooLong size) answer = answer ≡ Err (r.FrameTooLong size)
+Fails r.NotJson answer = answer ≡ Err r.NotJson
+Fails (r.Fractional path) answer = answer ≡ Err (r.Fractional path)
+Fails (r.Ld error) answer = answer ≡ Err (r.Ld error)
+Fails r.NotBuilt answer = answer ≡ Err r.NotBuilt
+Fails (r.TooManyFrames have would) answer = answer ≡ Err (r.TooManyFrames have would)
+Fails (r.HistoryFull of have limit) answer = answer ≡ Err (r.HistoryFull of have limit)
+
+abbrev pub Answers : Result Bool RegisterErr → Result Bool RegisterErr → Type 0
+Answers (Ok fresh) answer = answer ≡ Ok fresh
+Answers (Err error) answer = Fails error answer
+
+-- the history after a call with this entry, which stands in it where the call answered that it is new
+abbrev pub after_register : Result Bool RegisterErr → List Operation → Operation → List Operation
+after_register (Ok fresh) history entry = if fresh then history ++ entry ∷ [] else history
+after_register (Err error) history entry = history

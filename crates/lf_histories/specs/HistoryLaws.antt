@@ -1,0 +1,78 @@
+-- What holds of all histories.
+use Rattle.std.specs.Prelude.{◌≡◌, ◌≤◌, ◌<◌, List, [], ◌∷◌, ◌++◌, ℕ, suc, Bool, false, Some, None}
+use Rattle.lf_rdf.specs.declared.quad.Signed.{Signed}
+use Rattle.lf_rdf.specs.declared.quad.Patch.{Patch}
+use Rattle.lf_rdf.specs.Equality.{text_eq}
+use Rattle.lf_datasets.specs.Dataset.{after}
+use Rattle.lf_datasets.specs.VersionLaws.{has_line}
+use Rattle.lf_histories.specs.declared.operation.Operation.{Operation}
+use Rattle.lf_histories.specs.declared.operation.Operation.TheVariants.{Commit, Register, Retire}
+use Rattle.lf_histories.specs.History.{commits, registrations, live_frames, live_step, live, registered}
+use Rattle.lf_histories.specs.Legal.{IsAllowed, IsLegal}
+use Rattle.lf_histories.specs.Replay.{dataset_at, newest_dataset}
+
+-- what a legal history begins with is legal
+abbrev pub PrefixIsLegal : Type 0
+PrefixIsLegal =
+    (accepts : List ℕ → Bool) (history later : List Operation) → IsLegal accepts (history ++ later) → IsLegal accepts history
+
+-- a legal history with an allowed entry is legal
+abbrev pub AllowedIsLegal : Type 0
+AllowedIsLegal =
+    (accepts : List ℕ → Bool) (history : List Operation) (entry : Operation)
+    → IsLegal accepts history → IsAllowed accepts history entry → IsLegal accepts (history ++ entry ∷ [])
+
+-- what follows a version doesn't change its dataset
+abbrev pub DatasetsStay : Type 0
+DatasetsStay =
+    (history later : List Operation) (version : ℕ) → version ≤ commits history
+    → dataset_at (history ++ later) version ≡ dataset_at history version
+
+-- a commit makes one version, of the dataset after its patch, also where that is the dataset before it
+abbrev pub CommitMakesVersion : Type 0
+CommitMakesVersion =
+    (history : List Operation) (seat : ℕ) (patch : Patch)
+    → (commits (history ++ Commit seat patch ∷ []) ≡ suc (commits history))
+    × (newest_dataset (history ++ Commit seat patch ∷ []) ≡ after (newest_dataset history) patch.lines)
+
+-- two patches with the same lines, in whatever order and however often, make the same version
+abbrev pub PatchLinesInAnyOrder : Type 0
+PatchLinesInAnyOrder =
+    (history : List Operation) (seat seat2 : ℕ) (one two : Patch)
+    → ((s : Signed) → has_line one.lines s ≡ has_line two.lines s)
+    → newest_dataset (history ++ Commit seat one ∷ []) ≡ newest_dataset (history ++ Commit seat2 two ∷ [])
+
+-- the text number of a registration after this history
+abbrev pub text_number : List Operation → ℕ
+text_number history = suc (registrations history)
+
+-- a later registration has a greater text number
+abbrev pub TextNumbersRise : Type 0
+TextNumbersRise =
+    (history between : List Operation) (seat : ℕ) (name text : List ℕ)
+    → text_number history < text_number (history ++ Register seat name text ∷ between)
+
+-- the live frames after one more entry
+abbrev pub LiveFramesStep : Type 0
+LiveFramesStep =
+    (history : List Operation) (entry : Operation)
+    → live_frames (history ++ entry ∷ []) ≡ live_step (registrations history) (live_frames history) entry
+
+-- a name is live from its registration on
+abbrev pub LiveOnceRegistered : Type 0
+LiveOnceRegistered =
+    (history : List Operation) (seat : ℕ) (name text : List ℕ)
+    → live (history ++ Register seat name text ∷ []) name ≡ Some (registered name (text_number history) text)
+
+-- and no longer once it is retired
+abbrev pub GoneOnceRetired : Type 0
+GoneOnceRetired =
+    (history : List Operation) (seat : ℕ) (name : List ℕ) → live (history ++ Retire seat name ∷ []) name ≡ None
+
+-- registrations and retirements of other names don't count, nor do commits
+abbrev pub OthersStayLive : Type 0
+OthersStayLive =
+    (history : List Operation) (seat : ℕ) (name other text : List ℕ) (patch : Patch) → text_eq name other ≡ false
+    → (live (history ++ Register seat other text ∷ []) name ≡ live history name)
+    × (live (history ++ Retire seat other ∷ []) name ≡ live history name)
+    × (live (history ++ Commit seat patch ∷ []) name ≡ live history name)

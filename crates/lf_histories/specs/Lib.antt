@@ -1,0 +1,5 @@
+pub mod History
+pub mod Replay
+pub mod Legal
+pub mod HistoryLaws
+pub mod Worked

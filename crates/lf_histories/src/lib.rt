@@ -1,0 +1,14 @@
+//! Histories: the operations of a state in order, which of them are legal, and what replaying them gives.
+#![tactic(auto)]
+
+mod laws;
+mod live;
+mod operation;
+
+pub use laws::{
+    allowed_is_legal, commit_makes_version, datasets_stay, gone_once_retired, live_frames_step,
+    live_once_registered, others_stay_live, patch_lines_in_any_order, prefix_is_legal,
+    text_numbers_rise,
+};
+pub use live::Live;
+pub use operation::{Operation, OperationList};

@@ -1,0 +1,5 @@
+pub mod FieldLines
+pub mod Found
+pub mod Lists
+pub mod Names
+pub mod Powers

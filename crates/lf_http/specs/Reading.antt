@@ -1,0 +1,58 @@
+-- How a head is read from the front of a stream.
+use Rattle.std.specs.Prelude.{◌≡◌, ◌⊎◌, ⊤, List, [], ℕ, length, drop, codes, nat_eq, Option, Some, Result, Ok, Err, if◌then◌else◌}
+use Rattle.std.specs.List.{starts_with}
+use Rattle.httparse.specs.Grammar.{RequestHead, ReadsRequest, HasNoRequest, NeverHasRequest}
+use Rattle.httparse.specs.Spans.{RequestOverflows, RequestExceeds}
+use Rattle.lf_io.specs.Bytes.{HasEnded}
+use Rattle.lf_io.specs.Faults.{risen}
+use Rattle.lf_http.specs.declared.head.Head.{Head}
+use Rattle.lf_http.specs.declared.head.HeadErr.{HeadErr}
+use Rattle.lf_http.specs.declared.head.HeadErr.TheVariants.{ReadFault, CutShort, TooLarge, BadHead, LengthNeeded, BodyTooLong, Expectation}
+use Rattle.lf_http.specs.Judge.{request_of, judged}
+
+-- the longest head in bytes, with the empty lines before it
+abbrev pub longest_head : ℕ
+longest_head = 16384
+
+-- the most header lines of a head
+abbrev pub most_lines : ℕ
+most_lines = 64
+
+-- why no head within the limits stands before what is left, where these bytes came
+abbrev pub LacksHead : List ℕ → Option (List ℕ) → HeadErr → Type 0
+LacksHead bytes left ReadFault = ⊤
+LacksHead bytes left CutShort = (bytes ≡ [] → ⊥) × HasNoRequest bytes × HasEnded left
+LacksHead bytes left TooLarge =
+    ((length bytes ≡ longest_head) × HasNoRequest bytes) ⊎ (RequestExceeds most_lines bytes × RequestOverflows most_lines bytes)
+LacksHead bytes left BadHead = NeverHasRequest bytes
+LacksHead bytes left LengthNeeded = ⊥
+LacksHead bytes left BodyTooLong = ⊥
+LacksHead bytes left Expectation = ⊥
+
+-- the bytes begin with a head that is refused so
+abbrev pub HasRefusedHead : List ℕ → HeadErr → Type 0
+HasRefusedHead bytes e = (h : RequestHead) × (rest : List ℕ) × ReadsRequest bytes h rest × (judged (request_of h) ≡ Err e)
+
+-- the cause of a refusal
+abbrev pub IsRefused : List ℕ → Option (List ℕ) → HeadErr → Type 0
+IsRefused bytes left e = LacksHead bytes left e ⊎ HasRefusedHead bytes e
+
+-- what a target names: all of it behind `/frames/`
+abbrev pub name_of : List ℕ → List ℕ
+name_of target = if starts_with nat_eq target (codes "/frames/") then drop 8 target else []
+
+-- the count of a source's faults after a head was read with this answer: it rises exactly where a read failed
+abbrev pub count_after_head : {A : Type 0} → ℕ → Result A HeadErr → ℕ
+count_after_head count (Ok _) = count
+count_after_head count (Err ReadFault) = risen count
+count_after_head count (Err CutShort) = count
+count_after_head count (Err TooLarge) = count
+count_after_head count (Err BadHead) = count
+count_after_head count (Err LengthNeeded) = count
+count_after_head count (Err BodyTooLong) = count
+count_after_head count (Err Expectation) = count
+
+-- a head that was read, or its refusal
+abbrev pub as_read : Result Head HeadErr → Result (Option Head) HeadErr
+as_read (Ok head) = Ok (Some head)
+as_read (Err e) = Err e

@@ -1,0 +1,115 @@
+ghost use Rattle.std.specs.Prelude.{◌≡◌, ◌+◌, ◌<◌, ◌≤◌, ◌++◌, length, OnOk, OnErr, Err, IsErrOf, vec_capacity};
+ghost use Rattle.lf_io.specs.Bytes.{prepended, HasEnded};
+ghost use Rattle.lf_http.specs.Bodies.{count_after_body};
+
+use crate::buffers::{Buffers, drop_front};
+use lf_base::Memory;
+use lf_io::{Failed, Source};
+
+/// How many bytes are read at once.
+const PIECE: usize = 4096;
+
+/// Why no body was read.
+#[derive(Clone, Copy, Debug, PartialEq, Eq)]
+pub enum BodyErr {
+    /// The input ended inside the body.
+    CutShort,
+    /// A read failed.
+    ReadFault,
+    /// No memory was found.
+    Memory,
+}
+
+impl From<Memory> for BodyErr {
+    ghost use Rattle.std.specs.Prelude.{◌≡◌};
+    ghost use Rattle.lf_http.specs.declared.body.BodyErr.TheVariants as e;
+
+    ghost from_gives = { λ _ r. r ≡ e.Memory };
+
+    fn from(_refused: Memory) -> BodyErr {
+        BodyErr::Memory
+    }
+}
+
+// Reads pieces behind the body until it has its length.
+#[tactic(auto, using(lf_io::proofs::Told::prepended_nothing, lf_io::proofs::Told::prepended_twice))]
+fn fill<S: Source>(source: &mut S, body: &mut Vec<u8>, count: usize) -> Result<(), BodyErr>
+    requires { length body.old.items ≤ count }
+    ensures whole { OnOk result (length body.new.items ≡ count) }
+    ensures bytes { OnOk result (prepended body.old.items (S.left source.old) ≡ prepended body.new.items (S.left source.new)) }
+    ensures cut { IsErrOf result BodyErr.CutShort → length body.new.items < count }
+    ensures end { IsErrOf result BodyErr.CutShort → HasEnded (S.left source.new) }
+    ensures all { IsErrOf result BodyErr.CutShort
+        → prepended body.old.items (S.left source.old) ≡ prepended body.new.items (S.left source.new) }
+    ensures cause { S.faults source.new ≡ count_after_body (S.faults source.old) result }
+{
+    let mut piece = [0u8; PIECE];
+    while body.len() < count {
+        let room = PIECE.min(count - body.len());
+        let more = match source.read(&mut piece[..room]) {
+            Ok(more) => more,
+            Err(Failed) => return Err(BodyErr::ReadFault),
+        };
+        if more == 0 {
+            return Err(BodyErr::CutShort);
+        }
+        match body.extend_from_slice(&piece[..more]) {
+            Ok(()) => (),
+            Err(_) => return Err(BodyErr::Memory),
+        }
+    }
+    Ok(())
+}
+
+// Moves bytes from the front of those that are pending into the body.
+fn take_pending(pending: &mut Vec<u8>, body: &mut Vec<u8>, count: usize) -> Result<(), BodyErr>
+    requires { count ≤ length pending.old.items }
+    ensures taken { OnOk result (pending.old.items ≡ body.new.items ++ pending.new.items) }
+    ensures len { OnOk result (length body.new.items ≡ count) }
+    ensures memory { OnErr result (result ≡ Err BodyErr.Memory) }
+    ensures shorter { length pending.new.items ≤ length pending.old.items }
+    ensures capacity { vec_capacity pending.new ≡ vec_capacity pending.old }
+{
+    body.clear();
+    match body.extend_from_slice(&pending[..count]) {
+        Ok(()) => (),
+        Err(_) => return Err(BodyErr::Memory),
+    }
+    drop_front(pending, count);
+    Ok(())
+}
+
+/// Reads a body of this length: first the bytes that are pending, and then those of the source.
+#[tactic(auto, using(lf_io::proofs::Told::prepended_nothing, lf_io::proofs::Told::prepended_twice))]
+pub fn read_body<S: Source>(
+    source: &mut S,
+    buffers: &mut Buffers,
+    count: u64,
+) -> Result<(), BodyErr>
+    // The body is what stood first in the stream, and the rest stays.
+    ensures whole { OnOk result (length buffers.new.body ≡ count) }
+    ensures bytes { OnOk result (prepended buffers.old.pending (S.left source.old)
+        ≡ prepended (buffers.new.body ++ buffers.new.pending) (S.left source.new)) }
+
+    // `CutShort` comes only where the input ended inside the body.
+    ensures cut { IsErrOf result BodyErr.CutShort → length buffers.new.body < count }
+    ensures end { IsErrOf result BodyErr.CutShort → HasEnded (S.left source.new) }
+    ensures all { IsErrOf result BodyErr.CutShort
+        → prepended buffers.old.pending (S.left source.old) ≡ prepended buffers.new.body (S.left source.new) }
+
+    // `ReadFault` comes exactly where a read failed.
+    ensures cause { S.faults source.new ≡ count_after_body (S.faults source.old) result }
+    ensures name { buffers.new.name ≡ buffers.old.name }
+    ensures reply { buffers.new.reply ≡ buffers.old.reply }
+{
+    let count = count as usize;
+    let ready = count.min(buffers.pending.len());
+    match take_pending(&mut buffers.pending, &mut buffers.body, ready) {
+        Ok(()) => (),
+        Err(e) => return Err(e),
+    }
+    if ready == count {
+        return Ok(());
+    }
+    fill(source, &mut buffers.body, count)
+}

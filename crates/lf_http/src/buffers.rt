@@ -1,0 +1,93 @@
+ghost use Rattle.std.specs.Prelude.{◌≡◌, ◌≤◌, [], length, drop, vec_capacity, IfOk, IsTrue};
+ghost use Rattle.lf_http.specs.Reply.{is_named, reply_text};
+
+use crate::reply::{ReplyBytes, ReplyHead, write_reply};
+use arrayvec::ArrayVec;
+use httparse::spans::{EMPTY_HEADER_SPAN, HeaderSpan};
+use lf_base::Memory;
+use std::alloc::Global;
+use std::marker::Model;
+
+/// The longest head in bytes, with the empty lines before it.
+pub(crate) const LONGEST_HEAD: usize = 16_384;
+
+/// The most header lines of a head.
+pub(crate) const MOST_LINES: usize = 64;
+
+/// The memory in which the heads and bodies of one stream are read and its reply heads written.
+#[derive(Drop)]
+pub struct Buffers {
+    pub(crate) pending: Vec<u8>,
+    pub(crate) lines: Vec<HeaderSpan>,
+    pub(crate) name: String,
+    pub(crate) body: Vec<u8>,
+    reply: ReplyBytes,
+}
+
+impl Model for Buffers {
+    ghost use Rattle.std.specs.Prelude.{◌≡◌, ◌≤◌, length, vec_capacity, string_bytes};
+    ghost use Rattle.std.specs.String.{string_capacity};
+    ghost use Rattle.lf_http.specs.Shown.{Shown};
+
+    ghost Value = { Shown };
+
+    ghost view = { λ b. record { pending = b.pending.items; name = string_bytes b.name; body = b.body.items; reply = b.reply.items } };
+
+    ghost invariant = { λ b. (16384 ≤ vec_capacity b.pending) × (length b.pending.items ≤ 16384)
+        × (length b.lines.items ≡ 64) × (16384 ≤ string_capacity b.name) };
+}
+
+impl Buffers {
+    /// Takes the memory for heads and reply heads.
+    pub fn new(alloc: Global) -> Result<Buffers, Memory>
+        ensures { IfOk result (λ b. b ≡ record { pending = []; name = []; body = []; reply = [] }) }
+    {
+        Ok(Buffers {
+            pending: Vec::with_capacity(alloc, LONGEST_HEAD)?,
+            lines: Vec::from_elem(alloc, EMPTY_HEADER_SPAN, MOST_LINES)?,
+            name: String::with_capacity(alloc, LONGEST_HEAD)?,
+            body: Vec::new(alloc),
+            reply: ArrayVec::new(),
+        })
+    }
+
+    /// All of the target of the last accepted head behind `/frames/`.
+    pub fn name(&self) -> &str
+        ensures { result.now ≡ self.now.name }
+    {
+        self.name.as_str()
+    }
+
+    /// The last body that was read.
+    pub fn body(&self) -> &[u8]
+        ensures { result.now ≡ self.now.body }
+    {
+        self.body.as_slice()
+    }
+
+    /// The last reply head.
+    pub fn reply(&self) -> &[u8]
+        ensures { result.now ≡ self.now.reply }
+    {
+        self.reply.as_slice()
+    }
+}
+
+/// Writes a reply head in place of the last.
+pub fn reply_head(buffers: &mut Buffers, reply: &ReplyHead)
+    requires { IsTrue (is_named reply.now.status) }
+    ensures { buffers.new ≡ record buffers.old { reply = reply_text reply.now } }
+{
+    write_reply(&mut buffers.reply, reply);
+}
+
+/// Drops bytes from the front, which takes no memory.
+pub(crate) fn drop_front(bytes: &mut Vec<u8>, count: usize)
+    requires { count ≤ length bytes.old.items }
+    ensures items { bytes.new.items ≡ drop count bytes.old.items }
+    ensures capacity { vec_capacity bytes.new ≡ vec_capacity bytes.old }
+{
+    let left = bytes.len() - count;
+    bytes.copy_within(count.., 0);
+    bytes.truncate(left);
+}

@@ -1,0 +1,74 @@
+ghost use Rattle.std.specs.Prelude.{◌≡◌, ◌≤◌, ◌++◌, ℕ, List, [], length, string_bytes, Ok, Err, Some, None, OnOk, IfOk, IfErr, IfSome, OnErr, IsUtf8};
+ghost use Rattle.std.specs.String.{string_capacity};
+ghost use Rattle.httparse.specs.Grammar.{RequestHead, IsRequestHead, ReadsRequest, print_request};
+ghost use Rattle.lf_io.specs.Bytes.{prepended, HasEnded};
+ghost use Rattle.lf_http.specs.Judge.{judged, request_of};
+ghost use Rattle.lf_http.specs.Reading.{IsRefused, as_read, count_after_head, name_of};
+
+use crate::buffers::{Buffers, drop_front};
+use crate::field::bytes_of;
+use crate::head::{Head, HeadErr};
+use crate::judge::judge;
+use crate::reading::next_head;
+use lf_io::Source;
+
+// Keeps what the target names.
+fn keep_name(name: &mut String, target: &[u8])
+    requires capacity { 16384 ≤ string_capacity name.old }
+    requires short { length target.now ≤ 16384 }
+    requires text { IsUtf8 target.now }
+    ensures name { string_bytes name.new ≡ name_of target.now }
+    ensures capacity { 16384 ≤ string_capacity name.new }
+{
+    name.clear();
+    if target.starts_with(b"/frames/") {
+        let (_, behind) = target.split_at(8);
+        match str::from_utf8(behind) {
+            Ok(text) => match name.push_str(text) {
+                Ok(()) => (),
+                Err(_) => unreachable!(),
+            },
+            Err(_) => unreachable!(),
+        }
+    }
+}
+
+/// Reads the next head, and takes no memory (RFC 9112, section 2.2).
+pub fn read_head<S: Source>(source: &mut S, buffers: &mut Buffers) -> Result<Option<Head>, HeadErr>
+    // An accepted head, with the empty lines before it, stood first in the stream, and is gone from it.
+    ensures head { IfOk result (λ o. IfSome o (λ head. (h : RequestHead) × IsRequestHead h
+        × (prepended buffers.old.pending (S.left source.old) ≡ prepended (print_request h ++ buffers.new.pending) (S.left source.new))
+        × (judged (request_of h) ≡ Ok head) × (buffers.new.name ≡ name_of h.target))) }
+
+    // `None` comes where the input ended before the first byte of a message.
+    ensures none { result ≡ Ok None → buffers.new.pending ≡ [] }
+    ensures end { result ≡ Ok None → HasEnded (S.left source.new) }
+    ensures nothing { result ≡ Ok None → prepended buffers.old.pending (S.left source.old) ≡ S.left source.new }
+
+    // After a refusal the bytes stay.
+    ensures refused { IfErr result (λ e. IsRefused buffers.new.pending (S.left source.new) e) }
+    ensures unused { OnErr result (prepended buffers.old.pending (S.left source.old) ≡ prepended buffers.new.pending (S.left source.new)) }
+
+    // A head within the limits that the stream begins with is found, however the source cuts its pieces.
+    ensures found { (h : RequestHead) (told rest : List ℕ) → S.left source.old ≡ Some told
+        → ReadsRequest (buffers.old.pending ++ told) h rest → length (print_request h) ≤ 16384 → length h.fields ≤ 64
+        → (result ≡ Err HeadErr.ReadFault → ⊥) → result ≡ as_read (judged (request_of h)) }
+    ensures rest { (h : RequestHead) (told rest : List ℕ) → S.left source.old ≡ Some told
+        → ReadsRequest (buffers.old.pending ++ told) h rest → OnOk result (prepended buffers.new.pending (S.left source.new) ≡ Some rest) }
+    ensures cause { S.faults source.new ≡ count_after_head (S.faults source.old) result }
+    ensures body { buffers.new.body ≡ buffers.old.body }
+    ensures reply { buffers.new.reply ≡ buffers.old.reply }
+{
+    let spans = match next_head(source, &mut buffers.pending, &mut buffers.lines) {
+        Ok(Some(spans)) => spans,
+        Ok(None) => return Ok(None),
+        Err(e) => return Err(e),
+    };
+    let head = match judge(&buffers.pending, &spans, &buffers.lines) {
+        Ok(head) => head,
+        Err(e) => return Err(e),
+    };
+    keep_name(&mut buffers.name, bytes_of(&buffers.pending, spans.path));
+    drop_front(&mut buffers.pending, spans.len);
+    Ok(Some(head))
+}

@@ -1,0 +1,113 @@
+ghost use Rattle.std.specs.Prelude.{◌≡◌, ◌↔◌, ◌+◌, ◌^◌, ◌<◌, ◌≤◌, ℕ, List, Option, [], length, vec_capacity, Ok, None, IfOk, IfErr, IfSome, OnOk, OnErr};
+ghost use Rattle.httparse.specs.Grammar.{HasNoRequest};
+ghost use Rattle.httparse.specs.Spans.{IsRequestOf, IsRequestWithin};
+ghost use Rattle.lf_io.specs.Bytes.{prepended, HasEnded};
+ghost use Rattle.lf_io.specs.Faults.{count_after};
+ghost use Rattle.lf_http.specs.Reading.{LacksHead, count_after_head};
+
+use crate::buffers::LONGEST_HEAD;
+use crate::head::HeadErr;
+use httparse::spans::{HeaderSpan, RequestSpans, parse_request};
+use httparse::{Error, Status};
+use lf_io::{Failed, Source};
+
+/// How many bytes are read at once.
+const PIECE: usize = 4096;
+
+/// Reads a piece behind the bytes that are there.
+#[tactic(auto, using(lf_io::proofs::Told::prepended_nothing, lf_io::proofs::Told::prepended_twice))]
+pub(crate) fn read_more<S: Source>(source: &mut S, pending: &mut Vec<u8>) -> Result<usize, Failed>
+    requires room { length pending.old.items < 16384 }
+    requires capacity { 16384 ≤ vec_capacity pending.old }
+    ensures bytes { prepended pending.old.items (S.left source.old) ≡ prepended pending.new.items (S.left source.new) }
+    ensures within { length pending.new.items ≤ 16384 }
+    ensures capacity { 16384 ≤ vec_capacity pending.new }
+    ensures longer { IfOk result (λ n. length pending.new.items ≡ length pending.old.items + n) }
+    ensures end { IfOk result (λ n. n ≡ 0 → HasEnded (S.left source.new)) }
+    ensures nothing { IfOk result (λ n. n ≡ 0 → pending.new.items ≡ pending.old.items) }
+    ensures same { OnErr result (pending.new.items ≡ pending.old.items) }
+    ensures cause { S.faults source.new ≡ count_after (S.faults source.old) result }
+{
+    let mut piece = [0u8; PIECE];
+    let room = PIECE.min(LONGEST_HEAD - pending.len());
+    match source.read(&mut piece[..room]) {
+        Ok(count) => match pending.extend_from_slice(&piece[..count]) {
+            Ok(()) => Ok(count),
+            Err(_) => unreachable!(),
+        },
+        Err(Failed) => Err(Failed),
+    }
+}
+
+// The head that the bytes begin with, if it is whole.
+fn parse(bytes: &[u8], lines: &mut [HeaderSpan]) -> Result<Option<RequestSpans>, HeadErr>
+    requires { length lines.old ≡ 64 }
+    ensures room { length lines.new ≡ 64 }
+    ensures whole { IfOk result (λ o. IfSome o (λ spans. IsRequestOf bytes.now lines.new spans)) }
+    ensures within { IfOk result (λ o. IfSome o (λ spans. IsRequestWithin bytes.now lines.new spans)) }
+    ensures open { result ≡ Ok None → HasNoRequest bytes.now }
+    ensures refused { (left : Option (List ℕ)) → IfErr result (λ e. LacksHead bytes.now left e) }
+    ensures unfailed { (count : ℕ) → count_after_head count result ≡ count }
+{
+    match parse_request(bytes, lines) {
+        Ok(Status::Complete(spans)) => Ok(Some(spans)),
+        Ok(Status::Partial) => Ok(None),
+        Err(Error::TooManyHeaders) => Err(HeadErr::TooLarge),
+        Err(_) => Err(HeadErr::BadHead),
+    }
+}
+
+// What is answered where the input ended and the bytes begin with no whole head.
+fn end_of_input(pending: &[u8]) -> Result<Option<RequestSpans>, HeadErr>
+    requires { HasNoRequest pending.now }
+    ensures none { result ≡ Ok None ↔ (pending.now ≡ []) }
+    ensures open { IfOk result (λ o. o ≡ None) }
+    ensures cut { (left : Option (List ℕ)) → HasEnded left → IfErr result (λ e. LacksHead pending.now left e) }
+    ensures unfailed { (count : ℕ) → count_after_head count result ≡ count }
+{
+    if pending.is_empty() {
+        Ok(None)
+    } else {
+        Err(HeadErr::CutShort)
+    }
+}
+
+/// Reads until the bytes begin with a whole head.
+pub(crate) fn next_head<S: Source>(
+    source: &mut S,
+    pending: &mut Vec<u8>,
+    lines: &mut [HeaderSpan],
+) -> Result<Option<RequestSpans>, HeadErr>
+    requires lines { length lines.old ≡ 64 }
+    requires within { length pending.old.items ≤ 16384 }
+    requires capacity { 16384 ≤ vec_capacity pending.old }
+    ensures room { length lines.new ≡ 64 }
+    ensures bytes { prepended pending.old.items (S.left source.old) ≡ prepended pending.new.items (S.left source.new) }
+    ensures within { length pending.new.items ≤ 16384 }
+    ensures capacity { 16384 ≤ vec_capacity pending.new }
+    ensures whole { IfOk result (λ o. IfSome o (λ spans. IsRequestOf pending.new.items lines.new spans)) }
+    ensures spans { IfOk result (λ o. IfSome o (λ spans. IsRequestWithin pending.new.items lines.new spans)) }
+    ensures none { result ≡ Ok None → pending.new.items ≡ [] }
+    ensures end { result ≡ Ok None → HasEnded (S.left source.new) }
+    ensures refused { IfErr result (λ e. LacksHead pending.new.items (S.left source.new) e) }
+    ensures cause { S.faults source.new ≡ count_after_head (S.faults source.old) result }
+{
+    loop {
+        match parse(pending, lines) {
+            Err(e) => return Err(e),
+            Ok(Some(spans)) => return Ok(Some(spans)),
+            Ok(None) => (),
+        }
+        if pending.len() >= LONGEST_HEAD {
+            return Err(HeadErr::TooLarge);
+        }
+        match read_more(source, pending) {
+            Err(Failed) => return Err(HeadErr::ReadFault),
+            Ok(count) => {
+                if count == 0 {
+                    return end_of_input(pending);
+                }
+            }
+        }
+    }
+}

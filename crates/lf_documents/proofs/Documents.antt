@@ -12,7 +12,8 @@ use Rattle.lf_model.specs.JsonData.{JsonValue}
 use Rattle.lf_model.specs.TreeData.{TreeNode}
 use Rattle.lf_documents.specs.Items.{tree_items}
 use Rattle.lf_documents.specs.JsonPrint.{json_text}
-use Rattle.lf_documents.specs.Document.{Framed, not_key, no_match, matched, over, Gathered, trees, limited, with_tree, gathered, gathered_doc, compact_all, document, document_json, printed_doc, pruned, within_bytes, most_items, most_bytes}
+use Rattle.lf_framing.specs.Outcome.{Outcome, not_key, no_match, matched, past}
+use Rattle.lf_documents.specs.Document.{Gathered, trees, limited, with_tree, gathered, gathered_doc, compact_all, document, document_json, printed_doc, pruned, within_bytes, most_items, most_bytes}
 
 -- a text within the limit isn't refused
 not_refused : (printed : List ℕ) (error : LdError) → within_bytes printed ≡ doc.Refused error → ⊥
@@ -26,7 +27,7 @@ printed-confused : (table : TermTable) (context : JsonValue) (maps : Option (Lis
 printed-confused table context None error e = cc
 printed-confused table context (Some maps) error e = absurd (not_refused (json_text (document_json table context maps)) error e)
 
-pub refused-confused : (table : TermTable) (context : JsonValue) (outcomes : List Framed) (error : LdError) → document table context outcomes ≡ doc.Refused error → error ≡ IriConfusedWithPrefix
+pub refused-confused : (table : TermTable) (context : JsonValue) (outcomes : List Outcome) (error : LdError) → document table context outcomes ≡ doc.Refused error → error ≡ IriConfusedWithPrefix
 refused-confused table context outcomes error e = go (gathered 0 outcomes) e
   where
     go : (all : Gathered) → gathered_doc table context all ≡ doc.Refused error → error ≡ IriConfusedWithPrefix
@@ -44,7 +45,7 @@ printed-short : (table : TermTable) (context : JsonValue) (maps : Option (List J
 printed-short table context None text e = cc
 printed-short table context (Some maps) text e = short_enough (json_text (document_json table context maps)) text e
 
-pub text-within : (table : TermTable) (context : JsonValue) (outcomes : List Framed) (text : List ℕ) → document table context outcomes ≡ doc.Bytes text → length text ≤ most_bytes
+pub text-within : (table : TermTable) (context : JsonValue) (outcomes : List Outcome) (text : List ℕ) → document table context outcomes ≡ doc.Bytes text → length text ≤ most_bytes
 text-within table context outcomes text e = go (gathered 0 outcomes) e
   where
     go : (all : Gathered) → gathered_doc table context all ≡ doc.Bytes text → length text ≤ most_bytes
@@ -60,11 +61,11 @@ fold-from n (first ∷ rest) =
     omega arith
 
 -- what the trees of some outcomes add to the items before
-pub items-within : (items : ℕ) (outcomes : List Framed) (all : List TreeNode) → items ≤ most_items → gathered items outcomes ≡ trees all → items + sum_by tree_items all ≤ most_items
+pub items-within : (items : ℕ) (outcomes : List Outcome) (all : List TreeNode) → items ≤ most_items → gathered items outcomes ≡ trees all → items + sum_by tree_items all ≤ most_items
 items-within items [] all below e = let same : all ≡ [] = cc in subst (λ ts. items + sum_by tree_items ts ≤ most_items) (sym same) (omega arith)
 items-within items (not_key ∷ rest) all below e = items-within items rest all below e
 items-within items (no_match ∷ rest) all below e = items-within items rest all below e
-items-within items (over limit ∷ rest) all below e = cc
+items-within items (past limit ∷ rest) all below e = cc
 items-within items (matched found ∷ rest) all below e = go (nat_lt most_items (items + tree_items found)) refl e (λ within others at. items-within (items + tree_items found) rest others within at)
   where
     more : (g : Gathered) → gathered (items + tree_items found) rest ≡ g → with_tree found g ≡ trees all
@@ -85,24 +86,24 @@ items-within items (matched found ∷ rest) all below e = go (nat_lt most_items 
     go false at e' ih = more (gathered (items + tree_items found) rest) refl e' (ih (ltb-false most_items (items + tree_items found) at))
 
 -- a limit after outcomes that have none
-pub limit-decides : (items : ℕ) (before after : List Framed) (all : List TreeNode) (limit : Limit) → gathered items before ≡ trees all → gathered items (before ++ over limit ∷ after) ≡ limited limit
+pub limit-decides : (items : ℕ) (before after : List Outcome) (all : List TreeNode) (limit : Limit) → gathered items before ≡ trees all → gathered items (before ++ past limit ∷ after) ≡ limited limit
 limit-decides items [] after all limit e = refl
 limit-decides items (not_key ∷ rest) after all limit e = limit-decides items rest after all limit e
 limit-decides items (no_match ∷ rest) after all limit e = limit-decides items rest after all limit e
-limit-decides items (over other ∷ rest) after all limit e = cc
+limit-decides items (past other ∷ rest) after all limit e = cc
 limit-decides items (matched found ∷ rest) after all limit e = go (nat_lt most_items (items + tree_items found)) e (λ others at. limit-decides (items + tree_items found) rest after others limit at)
   where
     more : (g : Gathered) → gathered (items + tree_items found) rest ≡ g → with_tree found g ≡ trees all
-        → ((others : List TreeNode) → gathered (items + tree_items found) rest ≡ trees others → gathered (items + tree_items found) (rest ++ over limit ∷ after) ≡ limited limit)
-        → with_tree found (gathered (items + tree_items found) (rest ++ over limit ∷ after)) ≡ limited limit
+        → ((others : List TreeNode) → gathered (items + tree_items found) rest ≡ trees others → gathered (items + tree_items found) (rest ++ past limit ∷ after) ≡ limited limit)
+        → with_tree found (gathered (items + tree_items found) (rest ++ past limit ∷ after)) ≡ limited limit
     more (limited other) at e' ih = cc
     more (trees others) at e' ih = ap (with_tree found) (ih others at)
 
     go : (b : Bool) → cond b (limited DocumentItems) (with_tree found (gathered (items + tree_items found) rest)) ≡ trees all
-        → ((others : List TreeNode) → gathered (items + tree_items found) rest ≡ trees others → gathered (items + tree_items found) (rest ++ over limit ∷ after) ≡ limited limit)
-        → cond b (limited DocumentItems) (with_tree found (gathered (items + tree_items found) (rest ++ over limit ∷ after))) ≡ limited limit
+        → ((others : List TreeNode) → gathered (items + tree_items found) rest ≡ trees others → gathered (items + tree_items found) (rest ++ past limit ∷ after) ≡ limited limit)
+        → cond b (limited DocumentItems) (with_tree found (gathered (items + tree_items found) (rest ++ past limit ∷ after))) ≡ limited limit
     go true e' ih = cc
     go false e' ih = more (gathered (items + tree_items found) rest) refl e' ih
 
-pub items-limit : (outcomes : List Framed) (all : List TreeNode) → gathered 0 outcomes ≡ trees all → sum_by tree_items all ≤ most_items
+pub items-limit : (outcomes : List Outcome) (all : List TreeNode) → gathered 0 outcomes ≡ trees all → sum_by tree_items all ≤ most_items
 items-limit outcomes all e = let h = items-within 0 outcomes all (omega arith) e in omega arith

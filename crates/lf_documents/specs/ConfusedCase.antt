@@ -8,7 +8,8 @@ use Rattle.lf_model.specs.JsonData.{JsonValue, text, object, members_of}
 use Rattle.lf_model.specs.TreeData.{TreeNode}
 use Rattle.lf_selection.specs.Keywords.{selection_open}
 use Rattle.lf_documents.specs.CaseData.{node_of, one, plain, prefix_term, reference, table_of}
-use Rattle.lf_documents.specs.Document.{document, matched, most_items, most_bytes}
+use Rattle.lf_framing.specs.Outcome.{matched}
+use Rattle.lf_documents.specs.Document.{document, most_items, most_bytes}
 
 abbrev tagging : TermTable
 tagging = table_of None (prefix_term (codes "tag") (codes "http://t/") ∷ [])

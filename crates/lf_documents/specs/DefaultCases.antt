@@ -9,7 +9,8 @@ use Rattle.lf_model.specs.declared.scalar.Scalar.TheVariants.{Text}
 use Rattle.lf_model.specs.TreeData.{TreeNode, TreeEntry, fallback_entry, empty_fallback}
 use Rattle.lf_selection.specs.Keywords.{selection_open}
 use Rattle.lf_documents.specs.CaseData.{held_context, held_term, no_context, no_terms, node_of, one, table_of}
-use Rattle.lf_documents.specs.Document.{document, matched, most_items, most_bytes}
+use Rattle.lf_framing.specs.Outcome.{matched}
+use Rattle.lf_documents.specs.Document.{document, most_items, most_bytes}
 
 abbrev with_value : TreeEntry → TreeNode
 with_value value = node_of (codes "http://e/a") (one (codes "http://e/p") value ∷ [])

@@ -9,6 +9,7 @@ use Rattle.lf_model.specs.declared.document.Doc.{Doc}
 use Rattle.lf_model.specs.declared.document.Doc.TheVariants as doc
 use Rattle.lf_model.specs.JsonData.{JsonValue, array, object, members_list, items_of}
 use Rattle.lf_model.specs.TreeData.{TreeNode}
+use Rattle.lf_framing.specs.Outcome.{Outcome, not_key, no_match, matched, past}
 use Rattle.lf_selection.specs.Keywords.{at_graph}
 use Rattle.lf_selection.specs.Iris.{short_keyword}
 use Rattle.lf_documents.specs.Trying.{◌>>=◌}
@@ -18,13 +19,6 @@ use Rattle.lf_documents.specs.Pruning.{label_count, prune_node}
 use Rattle.lf_documents.specs.Items.{tree_items}
 use Rattle.lf_documents.specs.PrintedContext.{context_entry}
 use Rattle.lf_documents.specs.JsonPrint.{json_text}
-
--- what framing gives for one term of the dataset
-pub data Framed : Type 0 where
-  not_key : Framed
-  no_match : Framed
-  matched : TreeNode → Framed
-  over : Limit → Framed
 
 -- the trees of all outcomes, or the first limit
 pub data Gathered : Type 0 where
@@ -43,11 +37,11 @@ with_tree found (trees others) = trees (found ∷ others)
 with_tree found (limited limit) = limited limit
 
 -- outcome by outcome: a limit, or the tree that takes the sum of items above the most, is the first to decide
-abbrev pub gathered : ℕ → List Framed → Gathered
+abbrev pub gathered : ℕ → List Outcome → Gathered
 gathered items [] = trees []
 gathered items (not_key ∷ rest) = gathered items rest
 gathered items (no_match ∷ rest) = gathered items rest
-gathered items (over limit ∷ rest) = limited limit
+gathered items (past limit ∷ rest) = limited limit
 gathered items (matched found ∷ rest) =
     if nat_lt most_items (items + tree_items found) then limited DocumentItems
     else with_tree found (gathered (items + tree_items found) rest)
@@ -93,9 +87,9 @@ gathered_doc table context (limited limit) = doc.Over limit
 gathered_doc table context (trees all) = printed_doc table context (compact_all table (pruned all))
 
 -- the document: a limit of framing, else the error of compaction, else the limit of its bytes, else its text
-abbrev pub document : TermTable → JsonValue → List Framed → Doc
+abbrev pub document : TermTable → JsonValue → List Outcome → Doc
 document table context outcomes = gathered_doc table context (gathered 0 outcomes)
 
 -- the document computed from scratch: that of the outcomes of a dataset's terms, in order
-abbrev pub scratch : TermTable → JsonValue → (Term → Framed) → List Term → Doc
+abbrev pub scratch : TermTable → JsonValue → (Term → Outcome) → List Term → Doc
 scratch table context outcome terms = document table context (map outcome terms)

@@ -6,7 +6,8 @@ use Rattle.lf_model.specs.JsonData.{JsonValue, null, array, fraction, text, obje
 use Rattle.lf_model.specs.TreeData.{TreeNode}
 use Rattle.lf_selection.specs.Keywords.{selection_open}
 use Rattle.lf_documents.specs.CaseData.{no_context, no_terms, node_of, table_of}
-use Rattle.lf_documents.specs.Document.{document, gathered, limited, trees, matched, no_match, not_key, over, most_items, most_bytes}
+use Rattle.lf_framing.specs.Outcome.{matched, no_match, not_key, past}
+use Rattle.lf_documents.specs.Document.{document, gathered, limited, trees, most_items, most_bytes}
 
 abbrev vocabulary : JsonValue
 vocabulary = object (members_of ((codes "@vocab", text (codes "http://e/")) ∷ []))
@@ -36,7 +37,7 @@ unfolding selection_open most_items most_bytes
 version_in_list = refl
 
 -- the first limit in order of the terms decides
-pub first_limit : document no_terms no_context (matched leaf ∷ over Depth ∷ over TreeItems ∷ []) ≡ Over Depth
+pub first_limit : document no_terms no_context (matched leaf ∷ past Depth ∷ past TreeItems ∷ []) ≡ Over Depth
 unfolding selection_open most_items most_bytes
 first_limit = refl
 
@@ -45,6 +46,6 @@ pub last_item : gathered 262143 (matched leaf ∷ []) ≡ trees (leaf ∷ [])
 unfolding most_items
 last_item = refl
 
-pub one_item_more : gathered 262144 (matched leaf ∷ over Depth ∷ []) ≡ limited DocumentItems
+pub one_item_more : gathered 262144 (matched leaf ∷ past Depth ∷ []) ≡ limited DocumentItems
 unfolding most_items
 one_item_more = refl

@@ -7,7 +7,8 @@ use Rattle.lf_model.specs.declared.document.Doc.TheVariants.{Bytes}
 use Rattle.lf_model.specs.TreeData.{TreeNode}
 use Rattle.lf_selection.specs.Keywords.{selection_open}
 use Rattle.lf_documents.specs.CaseData.{held_context, held_term, many, node_of, plain, table_of, tagged}
-use Rattle.lf_documents.specs.Document.{document, matched, most_items, most_bytes}
+use Rattle.lf_framing.specs.Outcome.{matched}
+use Rattle.lf_documents.specs.Document.{document, most_items, most_bytes}
 
 abbrev labelled : TreeNode
 labelled =

@@ -14,7 +14,8 @@ use Rattle.lf_documents.specs.Pruning.{count_node, label_count, prune_node}
 use Rattle.lf_documents.specs.Ids.{node_has_id}
 use Rattle.lf_documents.specs.Items.{tree_items}
 use Rattle.lf_documents.specs.Grouping.{keys_of}
-use Rattle.lf_documents.specs.Document.{Framed, over, trees, limited, gathered, document, most_items, most_bytes}
+use Rattle.lf_framing.specs.Outcome.{Outcome, past}
+use Rattle.lf_documents.specs.Document.{trees, limited, gathered, document, most_items, most_bytes}
 
 -- the count of a label over two lists of trees is the sum of both counts
 abbrev pub CountsAddUp : Type 0
@@ -46,25 +47,25 @@ PruningKeepsItems = (counts : List ℕ → ℕ) (node : TreeNode) → tree_items
 -- a document is refused only with this error
 abbrev pub RefusedAsConfused : Type 0
 RefusedAsConfused =
-    (table : TermTable) (context : JsonValue) (outcomes : List Framed) (error : LdError)
+    (table : TermTable) (context : JsonValue) (outcomes : List Outcome) (error : LdError)
     → document table context outcomes ≡ doc.Refused error → error ≡ IriConfusedWithPrefix
 
 -- a document's text is within the limit
 abbrev pub TextWithinLimit : Type 0
 TextWithinLimit =
-    (table : TermTable) (context : JsonValue) (outcomes : List Framed) (text : List ℕ)
+    (table : TermTable) (context : JsonValue) (outcomes : List Outcome) (text : List ℕ)
     → document table context outcomes ≡ doc.Bytes text → length text ≤ most_bytes
 
 -- the trees of a document have no more items than the limit
 abbrev pub ItemsWithinLimit : Type 0
 ItemsWithinLimit =
-    (outcomes : List Framed) (all : List TreeNode) → gathered 0 outcomes ≡ trees all → sum_by tree_items all ≤ most_items
+    (outcomes : List Outcome) (all : List TreeNode) → gathered 0 outcomes ≡ trees all → sum_by tree_items all ≤ most_items
 
 -- an outcome that is a limit decides, whatever follows, where the outcomes before it have no limit
 abbrev pub FirstLimitDecides : Type 0
 FirstLimitDecides =
-    (before after : List Framed) (all : List TreeNode) (limit : Limit) → gathered 0 before ≡ trees all
-    → gathered 0 (before ++ over limit ∷ after) ≡ limited limit
+    (before after : List Outcome) (all : List TreeNode) (limit : Limit) → gathered 0 before ≡ trees all
+    → gathered 0 (before ++ past limit ∷ after) ≡ limited limit
 
 -- the keys of a map stand in byte order, each once
 abbrev pub KeysAscend : Type 0

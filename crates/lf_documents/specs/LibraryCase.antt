@@ -8,7 +8,8 @@ use Rattle.lf_selection.specs.Keywords.{selection_open}
 use Rattle.lf_documents.specs.CaseData.{library, reference, tagged, one}
 use Rattle.lf_documents.specs.Nodes.{compact}
 use Rattle.lf_documents.specs.JsonPrint.{json_text}
-use Rattle.lf_documents.specs.Document.{document, matched, not_key, no_match, most_items, most_bytes}
+use Rattle.lf_framing.specs.Outcome.{matched, not_key, no_match}
+use Rattle.lf_documents.specs.Document.{document, most_items, most_bytes}
 
 abbrev book : TreeNode
 book =

@@ -6,7 +6,8 @@ use Rattle.lf_model.specs.TreeData.{TreeNode, node_entry}
 use Rattle.lf_selection.specs.Keywords.{selection_open}
 use Rattle.lf_documents.specs.CaseData.{blank_of, no_context, no_terms, node_of, one, plain}
 use Rattle.lf_documents.specs.Pruning.{label_count}
-use Rattle.lf_documents.specs.Document.{document, matched, not_key, most_items, most_bytes}
+use Rattle.lf_framing.specs.Outcome.{matched, not_key}
+use Rattle.lf_documents.specs.Document.{document, most_items, most_bytes}
 
 abbrev lone_blank : TreeNode
 lone_blank = blank_of (codes "b") (one (codes "http://e/p") (plain (codes "1")) ∷ [])

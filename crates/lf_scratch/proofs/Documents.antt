@@ -3,7 +3,7 @@ use Rattle.std.proofs.Common.{◌≡◌, ap, ap₂}
 use Rattle.lf_framing.specs.Views.{Views, of_dataset}
 use Rattle.lf_framing.specs.Outcome.{outcome_in, framed_graph}
 use Rattle.lf_documents.specs.Document.{scratch}
-use Rattle.lf_scratch.specs.Scratch.{framed, scratch_by}
+use Rattle.lf_scratch.specs.Scratch.{scratch_by}
 use Rattle.lf_scratch.specs.Laws.{FrameErrorsDecide, SameViewsSameDocument}
 
 pub errors_decide : FrameErrorsDecide
@@ -14,7 +14,7 @@ same_document meaning one two ids view keys pointing names =
     ap₂
     (λ (views : Views) held.
     scratch meaning.table meaning.context
-    (λ id. framed (outcome_in views meaning.nested (framed_graph meaning.top_graph) id)) held)
+    (outcome_in views meaning.nested (framed_graph meaning.top_graph)) held)
     joined ids
   where
     joined : of_dataset one ≡ of_dataset two

@@ -1,4 +1,4 @@
-ghost use Rattle.std.specs.Prelude.{◌≡◌, IfOk};
+ghost use Rattle.std.specs.Prelude.{◌≡◌, IfErr, IfOk};
 ghost use Rattle.std.specs.Str.{IsAscii};
 ghost use Rattle.lf_first.specs.Reading.{Gives, after_byte};
 
@@ -6,10 +6,11 @@ use crate::error::FirstErr;
 use lf_base::{Memory, Text};
 use std::alloc::Global;
 
-/// What follows the byte that the bytes must begin with.
+/// What follows the byte that the bytes must begin with. It takes no memory.
 #[tactic(auto, unfolding(crate::specs::Reading::after_byte))]
 pub fn after_byte(bytes: &[u8], byte: u8) -> Result<&[u8], FirstErr>
-    ensures { Gives (λ rest. rest.now) result (after_byte byte bytes.now) }
+    ensures rest { Gives (λ rest. rest.now) result (after_byte byte bytes.now) }
+    ensures no_memory_wanted { IfErr result (λ refused. refused ≡ FirstErr.NotBuilt) }
 {
     match bytes {
         [] => Err(FirstErr::NotBuilt),

@@ -1,17 +1,19 @@
 -- A head within the limits that a stream begins with is the one that is read.
-use Rattle.std.proofs.Common.{◌≡◌, ◌<◌, ◌≤◌, ◌⊎◌, inl, inr, ◌∙◌, ◌+◌, unwrap_or, ℕ, List, [], ◌++◌, Option, Some, None, Err, refl, ap, sym, subst, arith, length, take, drop, append_assoc}
+use Rattle.std.proofs.Common.{◌≡◌, ◌<◌, ◌≤◌, ◌⊎◌, inl, inr, ◌∙◌, ◌+◌, unwrap_or, ℕ, List, [], ◌∷◌, ◌++◌, Option, Some, None, Err, refl, ap, sym, subst, arith, length, map, take, drop, append_assoc}
 use Rattle.std.proofs.Math.Seq.{take-append_seam}
 use Rattle.std.proofs.lemmas.Grind.{common_steps}
-use Rattle.std.proofs.lemmas.List.{append-nil, take-append-le, take-append-drop, length-append}
+use Rattle.std.proofs.lemmas.List.{append-nil, take-append-le, take-append-drop, length-append, length-map}
 use Rattle.std.proofs.lemmas.Option.{none-some}
 use Rattle.httparse.specs.Grammar.{RequestHead, IsRequestHead, ReadsRequest, HasNoRequest, print_request}
-use Rattle.httparse.specs.Spans.{RequestExceeds, RequestOverflows}
+use Rattle.httparse.specs.Spans.{RequestExceeds, RequestOverflows, IsRequestAt, IsRequestWithin, header_bytes, name_and_value}
+use Rattle.httparse.specs.declared.spans.HeaderSpan.{HeaderSpan}
+use Rattle.httparse.specs.declared.spans.RequestSpans.{RequestSpans}
 use Rattle.httparse.proofs.GrammarLemmas.{request_unique, ReadsRequest-append}
 use Rattle.lf_io.specs.Bytes.{prepended, HasEnded}
 use Rattle.lf_http.specs.declared.head.HeadErr.{HeadErr}
 use Rattle.lf_http.specs.declared.head.HeadErr.TheVariants.{ReadFault, CutShort, TooLarge, BadHead, LengthNeeded, BodyTooLong, Expectation}
 use Rattle.lf_http.specs.Judge.{judged, request_of}
-use Rattle.lf_http.specs.Reading.{LacksHead, IsRefused}
+use Rattle.lf_http.specs.Reading.{LacksHead, IsRefused, IsBeyond}
 
 -- a head that is no longer than the bytes stands in them
 within : (bytes more front rest : List ℕ) → bytes ++ more ≡ front ++ rest → length front ≤ length bytes
@@ -37,7 +39,7 @@ unfolding print_request
 print-some h = grind (arith, common_steps)
 
 -- no bytes hold no head
-nothing_read : HasNoRequest []
+pub nothing_read : HasNoRequest []
 nothing_read h rest reads =
     let some : 0 < length (print_request h) = print-some h in
     let all : length (print_request h ++ rest) ≡ length (print_request h) + length rest = length-append (print_request h) rest in
@@ -110,3 +112,99 @@ pub not_none : (stream rest : List ℕ) (left : Option (List ℕ)) (h : RequestH
     → Some stream ≡ left → HasEnded left → ReadsRequest stream h rest → ⊥
 not_none stream rest None h is ended reads = absurd (none-some stream (sym is))
 not_none stream rest (Some more) h is ended reads = found-none stream rest h (some-injective stream more is ∙ ended) reads
+
+-- beside a whole head there is no cause to answer that there is none
+not_beside : (bytes rest : List ℕ) (left : Option (List ℕ)) (h : RequestHead) (e : HeadErr)
+    → ReadsRequest bytes h rest → length h.fields ≤ 64 → LacksHead bytes left e → ⊥
+not_beside bytes rest left h ReadFault reads few lacks = lacks h rest reads
+not_beside bytes rest left h CutShort reads few lacks = lacks.1 h rest reads
+not_beside bytes rest left h TooLarge reads few lacks = over lacks
+  where
+    over : ((length bytes ≡ 16384) × HasNoRequest bytes) ⊎ (RequestExceeds 64 bytes × RequestOverflows 64 bytes) → ⊥
+    over (inl full) = full.1 h rest reads
+    over (inr many) =
+        let more_lines : 64 < length h.fields =
+        many.1 [] h rest (subst (λ (all : List ℕ). ReadsRequest all h rest) (sym (append-nil bytes)) reads) in omega arith
+not_beside bytes rest left h BadHead reads few lacks =
+    lacks [] h rest (subst (λ (all : List ℕ). ReadsRequest all h rest) (sym (append-nil bytes)) reads)
+not_beside bytes rest left h LengthNeeded reads few lacks = lacks
+not_beside bytes rest left h BodyTooLong reads few lacks = lacks
+not_beside bytes rest left h Expectation reads few lacks = lacks
+
+-- the refusal of a whole head is its own
+pub own_refusal : (bytes rest : List ℕ) (left : Option (List ℕ)) (h : RequestHead) (e : HeadErr)
+    → ReadsRequest bytes h rest → length h.fields ≤ 64 → IsRefused bytes left e → judged (request_of h) ≡ Err e
+own_refusal bytes rest left h e reads few refused = by refused
+  where
+    by : IsRefused bytes left e → judged (request_of h) ≡ Err e
+    by (inl lacks) = absurd (not_beside bytes rest left h e reads few lacks)
+    by (inr (k, behind, reads_k, why)) =
+        let same : h ≡ k = (request_unique bytes h k rest behind reads reads_k).0 in
+        ap (λ (head : RequestHead). judged (request_of head)) same ∙ why
+
+no_bytes : (bytes more : List ℕ) → [] ≡ bytes ++ more → bytes ≡ []
+no_bytes [] more is = refl
+no_bytes (b ∷ bytes) more is = absurd cc
+
+-- where nothing was left, nothing was taken
+pub nothing_taken : (bytes : List ℕ) (left : Option (List ℕ)) → Some [] ≡ prepended bytes left → bytes ≡ []
+nothing_taken bytes None is = absurd (none-some [] (sym is))
+nothing_taken bytes (Some more) is = no_bytes bytes more (some-injective [] (bytes ++ more) is)
+
+pub empty_read : (bytes : List ℕ) → length bytes ≡ 0 → HasNoRequest bytes
+empty_read [] is = nothing_read
+empty_read (b ∷ bytes) is = absurd (omega arith)
+
+-- where a head stands in the stream, want of a head is answered for its length or its lines alone
+only_large : (bytes more rest : List ℕ) (h : RequestHead) (e : HeadErr)
+    → ReadsRequest (bytes ++ more) h rest → (e ≡ ReadFault → ⊥) → LacksHead bytes (Some more) e → e ≡ TooLarge
+only_large bytes more rest h ReadFault reads read lacks = absurd (read refl)
+only_large bytes more rest h CutShort reads read lacks =
+    absurd (lacks.1 h rest
+    (subst (λ (all : List ℕ). ReadsRequest all h rest) (ap (λ (m : List ℕ). bytes ++ m) lacks.2 ∙ append-nil bytes) reads))
+only_large bytes more rest h TooLarge reads read lacks = refl
+only_large bytes more rest h BadHead reads read lacks = absurd (lacks more h rest reads)
+only_large bytes more rest h LengthNeeded reads read lacks = absurd lacks
+only_large bytes more rest h BodyTooLong reads read lacks = absurd lacks
+only_large bytes more rest h Expectation reads read lacks = absurd lacks
+
+pub large_is : (stream rest bytes : List ℕ) (left : Option (List ℕ)) (h : RequestHead) (e : HeadErr)
+    → Some stream ≡ prepended bytes left → ReadsRequest stream h rest → (e ≡ ReadFault → ⊥) → LacksHead bytes left e → e ≡ TooLarge
+large_is stream rest bytes None h e is reads read lacks = absurd (none-some stream (sym is))
+large_is stream rest bytes (Some more) h e is reads read lacks =
+    only_large bytes more rest h e
+    (subst (λ (all : List ℕ). ReadsRequest all h rest) (some-injective stream (bytes ++ more) is) reads) read lacks
+
+-- beside a whole head, want of a head is answered for its lines alone
+pub many_lines : (bytes rest : List ℕ) (left : Option (List ℕ)) (h : RequestHead) (e : HeadErr)
+    → ReadsRequest bytes h rest → LacksHead bytes left e → e ≡ TooLarge
+many_lines bytes rest left h ReadFault reads lacks = absurd (lacks h rest reads)
+many_lines bytes rest left h CutShort reads lacks = absurd (lacks.1 h rest reads)
+many_lines bytes rest left h TooLarge reads lacks = refl
+many_lines bytes rest left h BadHead reads lacks =
+    absurd (lacks [] h rest (subst (λ (all : List ℕ). ReadsRequest all h rest) (sym (append-nil bytes)) reads))
+many_lines bytes rest left h LengthNeeded reads lacks = absurd lacks
+many_lines bytes rest left h BodyTooLong reads lacks = absurd lacks
+many_lines bytes rest left h Expectation reads lacks = absurd lacks
+
+-- a head that was found is within the limits
+pub within_limits : (bytes : List ℕ) (lines : List HeaderSpan) (spans : RequestSpans) (k : RequestHead)
+    → IsRequestAt bytes lines spans k → IsRequestWithin bytes lines spans → length lines ≡ 64 → length bytes ≤ 16384
+    → (length (print_request k) ≤ 16384) × (length k.fields ≤ 64)
+within_limits bytes lines spans k at inside room short =
+    let fits : spans.len ≤ length bytes = inside.section.len_fits in
+    let whole : spans.len ≡ length (print_request k) = at.len in
+    let few : spans.headers ≤ length lines = inside.section.count_fits in
+    let same : length (map (header_bytes bytes) (take spans.headers lines)) ≡ length (map name_and_value k.fields) = ap length at.fields in
+    let taken : length (take spans.headers lines) ≡ length k.fields =
+    sym (length-map (take spans.headers lines) (header_bytes bytes)) ∙ same ∙ length-map k.fields name_and_value in
+    (omega arith, grind (arith, common_steps, taken, few, room))
+
+pub not_beyond : (h k : RequestHead) → h ≡ k → (length (print_request k) ≤ 16384) × (length k.fields ≤ 64)
+    → IsBeyond h → ⊥
+not_beyond h k same (short, few) (inl longer) =
+    let other : length (print_request h) ≡ length (print_request k) = ap (λ (x : RequestHead). length (print_request x)) same in
+    omega arith
+not_beyond h k same (short, few) (inr more) =
+    let other : length h.fields ≡ length k.fields = ap (λ (x : RequestHead). length x.fields) same in
+    omega arith

@@ -1,7 +1,7 @@
 -- How a head is read from the front of a stream.
-use Rattle.std.specs.Prelude.{◌≡◌, ◌⊎◌, ⊤, List, [], ℕ, length, drop, codes, nat_eq, Option, Some, Result, Ok, Err, if◌then◌else◌}
+use Rattle.std.specs.Prelude.{◌^◌, ◌+◌, ◌-◌, ◌≡◌, ◌<◌, ◌⊎◌, List, [], ℕ, length, drop, codes, nat_eq, Option, Some, Result, Ok, Err, if◌then◌else◌}
 use Rattle.std.specs.List.{starts_with}
-use Rattle.httparse.specs.Grammar.{RequestHead, ReadsRequest, HasNoRequest, NeverHasRequest}
+use Rattle.httparse.specs.Grammar.{RequestHead, print_request, ReadsRequest, HasNoRequest, NeverHasRequest}
 use Rattle.httparse.specs.Spans.{RequestOverflows, RequestExceeds}
 use Rattle.lf_io.specs.Bytes.{HasEnded}
 use Rattle.lf_io.specs.Faults.{risen}
@@ -18,9 +18,13 @@ longest_head = 16384
 abbrev pub most_lines : ℕ
 most_lines = 64
 
+-- the head is longer, or has more lines
+abbrev pub IsBeyond : RequestHead → Type 0
+IsBeyond h = (longest_head < length (print_request h)) ⊎ (most_lines < length h.fields)
+
 -- why no head within the limits stands before what is left, where these bytes came
 abbrev pub LacksHead : List ℕ → Option (List ℕ) → HeadErr → Type 0
-LacksHead bytes left ReadFault = ⊤
+LacksHead bytes left ReadFault = HasNoRequest bytes
 LacksHead bytes left CutShort = (bytes ≡ [] → ⊥) × HasNoRequest bytes × HasEnded left
 LacksHead bytes left TooLarge =
     ((length bytes ≡ longest_head) × HasNoRequest bytes) ⊎ (RequestExceeds most_lines bytes × RequestOverflows most_lines bytes)
@@ -56,3 +60,7 @@ count_after_head count (Err Expectation) = count
 abbrev pub as_read : Result Head HeadErr → Result (Option Head) HeadErr
 as_read (Ok head) = Ok (Some head)
 as_read (Err e) = Err e
+
+-- how many bytes may still be used: those that are pending, and those that the source may still give, 2^63 in all
+abbrev pub to_come : ℕ → List ℕ → ℕ
+to_come taken pending = (2 ^ 63 - taken) + length pending

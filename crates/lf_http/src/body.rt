@@ -1,6 +1,7 @@
-ghost use Rattle.std.specs.Prelude.{◌≡◌, ◌+◌, ◌<◌, ◌≤◌, ◌++◌, length, OnOk, OnErr, Err, IsErrOf, vec_capacity};
+ghost use Rattle.std.specs.Prelude.{◌≡◌, ◌+◌, ◌-◌, ◌^◌, ◌<◌, ◌≤◌, ◌++◌, ℕ, List, Some, length, OnOk, OnErr, Err, IsErrOf, vec_capacity};
 ghost use Rattle.lf_io.specs.Bytes.{prepended, HasEnded};
-ghost use Rattle.lf_http.specs.Bodies.{count_after_body};
+ghost use Rattle.lf_http.specs.Bodies.{ReadsBody, count_after_body};
+ghost use Rattle.lf_http.specs.Reading.{to_come};
 
 use crate::buffers::{Buffers, drop_front};
 use lf_base::Memory;
@@ -31,21 +32,26 @@ impl From<Memory> for BodyErr {
     }
 }
 
-// Reads pieces behind the body until it has its length.
+// Reads pieces behind the body until it has its length. The room of a piece is taken before the piece is read, so that no
+// byte is lost for want of memory.
 #[tactic(auto, using(lf_io::proofs::Told::prepended_nothing, lf_io::proofs::Told::prepended_twice))]
 fn fill<S: Source>(source: &mut S, body: &mut Vec<u8>, count: usize) -> Result<(), BodyErr>
     requires { length body.old.items ≤ count }
     ensures whole { OnOk result (length body.new.items ≡ count) }
-    ensures bytes { OnOk result (prepended body.old.items (S.left source.old) ≡ prepended body.new.items (S.left source.new)) }
+    ensures bytes { prepended body.old.items (S.left source.old) ≡ prepended body.new.items (S.left source.new) }
     ensures cut { IsErrOf result BodyErr.CutShort → length body.new.items < count }
     ensures end { IsErrOf result BodyErr.CutShort → HasEnded (S.left source.new) }
-    ensures all { IsErrOf result BodyErr.CutShort
-        → prepended body.old.items (S.left source.old) ≡ prepended body.new.items (S.left source.new) }
+    ensures some { IsErrOf result BodyErr.Memory → 0 < count }
+    ensures fewer { (2 ^ 63) - S.taken source.new ≤ (2 ^ 63) - S.taken source.old }
     ensures cause { S.faults source.new ≡ count_after_body (S.faults source.old) result }
 {
     let mut piece = [0u8; PIECE];
     while body.len() < count {
         let room = PIECE.min(count - body.len());
+        match body.reserve(room) {
+            Ok(()) => (),
+            Err(_) => return Err(BodyErr::Memory),
+        }
         let more = match source.read(&mut piece[..room]) {
             Ok(more) => more,
             Err(Failed) => return Err(BodyErr::ReadFault),
@@ -55,7 +61,7 @@ fn fill<S: Source>(source: &mut S, body: &mut Vec<u8>, count: usize) -> Result<(
         }
         match body.extend_from_slice(&piece[..more]) {
             Ok(()) => (),
-            Err(_) => return Err(BodyErr::Memory),
+            Err(_) => unreachable!(),
         }
     }
     Ok(())
@@ -64,9 +70,10 @@ fn fill<S: Source>(source: &mut S, body: &mut Vec<u8>, count: usize) -> Result<(
 // Moves bytes from the front of those that are pending into the body.
 fn take_pending(pending: &mut Vec<u8>, body: &mut Vec<u8>, count: usize) -> Result<(), BodyErr>
     requires { count ≤ length pending.old.items }
-    ensures taken { OnOk result (pending.old.items ≡ body.new.items ++ pending.new.items) }
+    ensures taken { pending.old.items ≡ body.new.items ++ pending.new.items }
     ensures len { OnOk result (length body.new.items ≡ count) }
     ensures memory { OnErr result (result ≡ Err BodyErr.Memory) }
+    ensures some { OnErr result (0 < count) }
     ensures shorter { length pending.new.items ≤ length pending.old.items }
     ensures capacity { vec_capacity pending.new ≡ vec_capacity pending.old }
 {
@@ -91,11 +98,27 @@ pub fn read_body<S: Source>(
     ensures bytes { OnOk result (prepended buffers.old.pending (S.left source.old)
         ≡ prepended (buffers.new.body ++ buffers.new.pending) (S.left source.new)) }
 
+    // Whatever is answered, the bytes that were taken stand in the body and before what is left.
+    ensures taken { prepended buffers.old.pending (S.left source.old)
+        ≡ prepended (buffers.new.body ++ buffers.new.pending) (S.left source.new) }
+
     // `CutShort` comes only where the input ended inside the body.
     ensures cut { IsErrOf result BodyErr.CutShort → length buffers.new.body < count }
     ensures end { IsErrOf result BodyErr.CutShort → HasEnded (S.left source.new) }
     ensures all { IsErrOf result BodyErr.CutShort
         → prepended buffers.old.pending (S.left source.old) ≡ prepended buffers.new.body (S.left source.new) }
+
+    // Where the source tells what is left, the answer follows from it, unless a read failed or memory was missing.
+    ensures told { (told : List ℕ) → S.left source.old ≡ Some told → ReadsBody count (buffers.old.pending ++ told) buffers.new.body result }
+
+    // Memory is wanted only for a body that isn't empty.
+    ensures some { IsErrOf result BodyErr.Memory → 0 < count }
+
+    // Where the bytes that are pending are enough, nothing is read.
+    ensures unread { count ≤ length buffers.old.pending → source.new ≡ source.old }
+
+    // Reading leaves no more to come.
+    ensures fewer { to_come (S.taken source.new) buffers.new.pending ≤ to_come (S.taken source.old) buffers.old.pending }
 
     // `ReadFault` comes exactly where a read failed.
     ensures cause { S.faults source.new ≡ count_after_body (S.faults source.old) result }

@@ -9,6 +9,7 @@ mod judge;
 mod law;
 mod message;
 mod number;
+mod progress;
 mod reading;
 mod reply;
 #[cfg(test)]

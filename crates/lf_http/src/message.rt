@@ -1,9 +1,9 @@
-ghost use Rattle.std.specs.Prelude.{◌≡◌, ◌≤◌, ◌++◌, ℕ, List, [], length, string_bytes, Ok, Err, Some, None, OnOk, IfOk, IfErr, IfSome, OnErr, IsUtf8};
+ghost use Rattle.std.specs.Prelude.{◌≡◌, ◌<◌, ◌≤◌, ◌++◌, ℕ, List, [], length, string_bytes, Ok, Err, Some, None, OnOk, OnSome, IfOk, IfErr, IfSome, OnErr, IsUtf8};
 ghost use Rattle.std.specs.String.{string_capacity};
 ghost use Rattle.httparse.specs.Grammar.{RequestHead, IsRequestHead, ReadsRequest, print_request};
 ghost use Rattle.lf_io.specs.Bytes.{prepended, HasEnded};
 ghost use Rattle.lf_http.specs.Judge.{judged, request_of};
-ghost use Rattle.lf_http.specs.Reading.{IsRefused, as_read, count_after_head, name_of};
+ghost use Rattle.lf_http.specs.Reading.{IsRefused, IsBeyond, as_read, count_after_head, name_of, to_come};
 
 use crate::buffers::{Buffers, drop_front};
 use crate::field::bytes_of;
@@ -34,28 +34,63 @@ fn keep_name(name: &mut String, target: &[u8])
 }
 
 /// Reads the next head, and takes no memory (RFC 9112, section 2.2).
+///
+/// A head costs time linear in its bytes, however the source cuts its pieces. Each byte is looked at once for line ends. The
+/// bytes are parsed where an empty line behind a line may have ended the head, where they are more than twice as many as at
+/// the last parse, and where no more are taken, so that all parses together read at most some four times their number. The
+/// bytes behind the head, which are at most one piece, are moved to the front.
 pub fn read_head<S: Source>(source: &mut S, buffers: &mut Buffers) -> Result<Option<Head>, HeadErr>
     // An accepted head, with the empty lines before it, stood first in the stream, and is gone from it.
     ensures head { IfOk result (λ o. IfSome o (λ head. (h : RequestHead) × IsRequestHead h
         × (prepended buffers.old.pending (S.left source.old) ≡ prepended (print_request h ++ buffers.new.pending) (S.left source.new))
         × (judged (request_of h) ≡ Ok head) × (buffers.new.name ≡ name_of h.target))) }
+    ensures limits { IfOk result (λ o. IfSome o (λ head. (h : RequestHead) × IsRequestHead h
+        × (prepended buffers.old.pending (S.left source.old) ≡ prepended (print_request h ++ buffers.new.pending) (S.left source.new))
+        × (judged (request_of h) ≡ Ok head) × (length (print_request h) ≤ 16384) × (length h.fields ≤ 64))) }
 
     // `None` comes where the input ended before the first byte of a message.
     ensures none { result ≡ Ok None → buffers.new.pending ≡ [] }
     ensures end { result ≡ Ok None → HasEnded (S.left source.new) }
     ensures nothing { result ≡ Ok None → prepended buffers.old.pending (S.left source.old) ≡ S.left source.new }
 
+    // It is answered wherever nothing is left, unless a read failed.
+    ensures ended { buffers.old.pending ≡ [] → S.left source.old ≡ Some [] → (result ≡ Err HeadErr.ReadFault → ⊥) → result ≡ Ok None }
+
     // After a refusal the bytes stay.
     ensures refused { IfErr result (λ e. IsRefused buffers.new.pending (S.left source.new) e) }
     ensures unused { OnErr result (prepended buffers.old.pending (S.left source.old) ≡ prepended buffers.new.pending (S.left source.new)) }
 
-    // A head within the limits that the stream begins with is found, however the source cuts its pieces.
+    // Where they hold a whole head, its refusal is its own.
+    ensures exact { (h : RequestHead) (rest : List ℕ) → ReadsRequest buffers.new.pending h rest → length h.fields ≤ 64
+        → IfErr result (λ e. judged (request_of h) ≡ Err e) }
+    ensures many { (h : RequestHead) (rest : List ℕ) → ReadsRequest buffers.new.pending h rest → 64 < length h.fields
+        → IfErr result (λ e. e ≡ HeadErr.TooLarge) }
+
+    // A head within the limits that the stream begins with is found, however the source cuts its pieces, and one beyond them
+    // is too large.
     ensures found { (h : RequestHead) (told rest : List ℕ) → S.left source.old ≡ Some told
         → ReadsRequest (buffers.old.pending ++ told) h rest → length (print_request h) ≤ 16384 → length h.fields ≤ 64
         → (result ≡ Err HeadErr.ReadFault → ⊥) → result ≡ as_read (judged (request_of h)) }
+    ensures large { (h : RequestHead) (told rest : List ℕ) → S.left source.old ≡ Some told
+        → ReadsRequest (buffers.old.pending ++ told) h rest → IsBeyond h
+        → (result ≡ Err HeadErr.ReadFault → ⊥) → result ≡ Err HeadErr.TooLarge }
     ensures rest { (h : RequestHead) (told rest : List ℕ) → S.left source.old ≡ Some told
         → ReadsRequest (buffers.old.pending ++ told) h rest → OnOk result (prepended buffers.new.pending (S.left source.new) ≡ Some rest) }
+
+    // Where the bytes that are pending hold a whole head, nothing is read.
+    ensures unread { (h : RequestHead) (rest : List ℕ) → ReadsRequest buffers.old.pending h rest → source.new ≡ source.old }
+
+    // A source gives 2^63 bytes in its life, and each head uses some: there is an end of heads.
+    ensures fewer { OnOk result (to_come (S.taken source.new) buffers.new.pending ≤ to_come (S.taken source.old) buffers.old.pending) }
+    ensures used { IfOk result (λ o. OnSome o
+        (to_come (S.taken source.new) buffers.new.pending < to_come (S.taken source.old) buffers.old.pending)) }
+
+    // It fails exactly where the count of faults rose, or stands at its end.
     ensures cause { S.faults source.new ≡ count_after_head (S.faults source.old) result }
+
+    // Without an accepted head the name stays, and the rest always does.
+    ensures unnamed { OnErr result (buffers.new.name ≡ buffers.old.name) }
+    ensures nameless { result ≡ Ok None → buffers.new.name ≡ buffers.old.name }
     ensures body { buffers.new.body ≡ buffers.old.body }
     ensures reply { buffers.new.reply ≡ buffers.old.reply }
 {

@@ -1,12 +1,15 @@
-ghost use Rattle.std.specs.Prelude.{◌≡◌, ◌↔◌, ◌+◌, ◌^◌, ◌<◌, ◌≤◌, ℕ, List, Option, [], length, vec_capacity, Ok, None, IfOk, IfErr, IfSome, OnOk, OnErr};
-ghost use Rattle.httparse.specs.Grammar.{HasNoRequest};
+ghost use Rattle.std.specs.Prelude.{◌≡◌, ◌+◌, ◌<◌, ◌≤◌, ℕ, List, Option, [], length, take, vec_capacity, Ok, Err, None, IfOk, IfErr, IfSome, OnOk, OnErr};
+ghost use Rattle.httparse.specs.Grammar.{RequestHead, ReadsRequest, HasNoRequest};
 ghost use Rattle.httparse.specs.Spans.{IsRequestOf, IsRequestWithin};
 ghost use Rattle.lf_io.specs.Bytes.{prepended, HasEnded};
 ghost use Rattle.lf_io.specs.Faults.{count_after};
-ghost use Rattle.lf_http.specs.Reading.{LacksHead, count_after_head};
+ghost use Rattle.lf_http.specs.Reading.{LacksHead, count_after_head, to_come};
+ghost use Rattle.lf_http.specs.Lines.{line_from};
+ghost use Rattle.lf_http.specs.declared.progress.Line.TheVariants.{Before};
 
 use crate::buffers::LONGEST_HEAD;
 use crate::head::HeadErr;
+use crate::progress::Progress;
 use httparse::spans::{HeaderSpan, RequestSpans, parse_request};
 use httparse::{Error, Status};
 use lf_io::{Failed, Source};
@@ -16,19 +19,26 @@ const PIECE: usize = 4096;
 
 /// Reads a piece behind the bytes that are there.
 #[tactic(auto, using(lf_io::proofs::Told::prepended_nothing, lf_io::proofs::Told::prepended_twice))]
-pub(crate) fn read_more<S: Source>(source: &mut S, pending: &mut Vec<u8>) -> Result<usize, Failed>
+pub(crate) fn read_more<S: Source>(
+    source: &mut S,
+    pending: &mut Vec<u8>,
+    piece: &mut [u8],
+) -> Result<usize, Failed>
+    requires piece { length piece.old ≡ 4096 }
     requires room { length pending.old.items < 16384 }
     requires capacity { 16384 ≤ vec_capacity pending.old }
     ensures bytes { prepended pending.old.items (S.left source.old) ≡ prepended pending.new.items (S.left source.new) }
+    ensures piece { length piece.new ≡ 4096 }
     ensures within { length pending.new.items ≤ 16384 }
     ensures capacity { 16384 ≤ vec_capacity pending.new }
+    ensures kept { OnOk result (take (length pending.old.items) pending.new.items ≡ pending.old.items) }
     ensures longer { IfOk result (λ n. length pending.new.items ≡ length pending.old.items + n) }
     ensures end { IfOk result (λ n. n ≡ 0 → HasEnded (S.left source.new)) }
     ensures nothing { IfOk result (λ n. n ≡ 0 → pending.new.items ≡ pending.old.items) }
     ensures same { OnErr result (pending.new.items ≡ pending.old.items) }
+    ensures fewer { to_come (S.taken source.new) pending.new.items ≤ to_come (S.taken source.old) pending.old.items }
     ensures cause { S.faults source.new ≡ count_after (S.faults source.old) result }
 {
-    let mut piece = [0u8; PIECE];
     let room = PIECE.min(LONGEST_HEAD - pending.len());
     match source.read(&mut piece[..room]) {
         Ok(count) => match pending.extend_from_slice(&piece[..count]) {
@@ -57,18 +67,63 @@ fn parse(bytes: &[u8], lines: &mut [HeaderSpan]) -> Result<Option<RequestSpans>,
     }
 }
 
-// What is answered where the input ended and the bytes begin with no whole head.
-fn end_of_input(pending: &[u8]) -> Result<Option<RequestSpans>, HeadErr>
-    requires { HasNoRequest pending.now }
-    ensures none { result ≡ Ok None ↔ (pending.now ≡ []) }
-    ensures open { IfOk result (λ o. o ≡ None) }
-    ensures cut { (left : Option (List ℕ)) → HasEnded left → IfErr result (λ e. LacksHead pending.now left e) }
+// The same, looked for only where `Progress` says so.
+fn parse_if_due(
+    progress: &mut Progress,
+    bytes: &[u8],
+    lines: &mut [HeaderSpan],
+) -> Result<Option<RequestSpans>, HeadErr>
+    requires lines { length lines.old ≡ 64 }
+    requires within { length bytes.now ≤ 16384 }
+    requires looked { progress.old.looked ≤ length bytes.now }
+    requires parsed { progress.old.parsed ≤ 16384 }
+    requires line { progress.old.line ≡ line_from Before (take progress.old.looked bytes.now) }
+    ensures looked { progress.new.looked ≡ length bytes.now }
+    ensures parsed { progress.new.parsed ≤ 16384 }
+    ensures line { progress.new.line ≡ line_from Before bytes.now }
+    ensures room { length lines.new ≡ 64 }
+    ensures whole { IfOk result (λ o. IfSome o (λ spans. IsRequestOf bytes.now lines.new spans)) }
+    ensures within { IfOk result (λ o. IfSome o (λ spans. IsRequestWithin bytes.now lines.new spans)) }
+    ensures more { result ≡ Ok None → length bytes.now < 16384 }
+    ensures open { result ≡ Ok None → HasNoRequest bytes.now }
+    ensures refused { (left : Option (List ℕ)) → IfErr result (λ e. LacksHead bytes.now left e) }
+    ensures some { OnErr result (0 < length bytes.now) }
+    ensures unfailed { (count : ℕ) → count_after_head count result ≡ count }
+{
+    if !progress.is_due(bytes) {
+        return Ok(None);
+    }
+    match parse(bytes, lines) {
+        Err(e) => Err(e),
+        Ok(Some(spans)) => Ok(Some(spans)),
+        Ok(None) => {
+            if bytes.len() >= LONGEST_HEAD {
+                Err(HeadErr::TooLarge)
+            } else {
+                Ok(None)
+            }
+        }
+    }
+}
+
+// What is answered where the input has ended.
+fn end_of_input(pending: &[u8], lines: &mut [HeaderSpan]) -> Result<Option<RequestSpans>, HeadErr>
+    requires { length lines.old ≡ 64 }
+    ensures room { length lines.new ≡ 64 }
+    ensures whole { IfOk result (λ o. IfSome o (λ spans. IsRequestOf pending.now lines.new spans)) }
+    ensures within { IfOk result (λ o. IfSome o (λ spans. IsRequestWithin pending.now lines.new spans)) }
+    ensures none { result ≡ Ok None → pending.now ≡ [] }
+    ensures refused { (left : Option (List ℕ)) → HasEnded left → IfErr result (λ e. LacksHead pending.now left e) }
+    ensures some { OnErr result (pending.now ≡ [] → ⊥) }
     ensures unfailed { (count : ℕ) → count_after_head count result ≡ count }
 {
     if pending.is_empty() {
-        Ok(None)
-    } else {
-        Err(HeadErr::CutShort)
+        return Ok(None);
+    }
+    match parse(pending, lines) {
+        Err(e) => Err(e),
+        Ok(Some(spans)) => Ok(Some(spans)),
+        Ok(None) => Err(HeadErr::CutShort),
     }
 }
 
@@ -90,22 +145,25 @@ pub(crate) fn next_head<S: Source>(
     ensures none { result ≡ Ok None → pending.new.items ≡ [] }
     ensures end { result ≡ Ok None → HasEnded (S.left source.new) }
     ensures refused { IfErr result (λ e. LacksHead pending.new.items (S.left source.new) e) }
+    ensures unread { (h : RequestHead) (rest : List ℕ) → ReadsRequest pending.old.items h rest
+        → (source.new ≡ source.old) × (pending.new.items ≡ pending.old.items) }
+    ensures some { IfErr result (λ e. (e ≡ HeadErr.ReadFault → ⊥) → pending.new.items ≡ [] → ⊥) }
+    ensures fewer { to_come (S.taken source.new) pending.new.items ≤ to_come (S.taken source.old) pending.old.items }
     ensures cause { S.faults source.new ≡ count_after_head (S.faults source.old) result }
 {
+    let mut piece = [0u8; PIECE];
+    let mut progress = Progress::new();
     loop {
-        match parse(pending, lines) {
+        match parse_if_due(&mut progress, pending, lines) {
             Err(e) => return Err(e),
             Ok(Some(spans)) => return Ok(Some(spans)),
             Ok(None) => (),
         }
-        if pending.len() >= LONGEST_HEAD {
-            return Err(HeadErr::TooLarge);
-        }
-        match read_more(source, pending) {
+        match read_more(source, pending, &mut piece) {
             Err(Failed) => return Err(HeadErr::ReadFault),
             Ok(count) => {
                 if count == 0 {
-                    return end_of_input(pending);
+                    return end_of_input(pending, lines);
                 }
             }
         }

@@ -1,8 +1,11 @@
-ghost use Rattle.std.specs.Prelude.{◌<◌};
+ghost use Rattle.std.specs.Prelude.{◌<◌, IsTrue};
+ghost use Rattle.lf_http.specs.Reply.{is_named};
 
 use crate::{
-    Allow, Buffers, Head, HeadErr, Method, ReplyHead, Target, read_body, read_head, reply_head,
+    Allow, BodyErr, Buffers, Head, HeadErr, Method, ReplyHead, Target, read_body, read_head,
+    reply_head,
 };
+use lf_base::Memory;
 use lf_io::{Calls, MemorySource};
 use std::alloc::Global;
 use std::test::Fail;
@@ -10,8 +13,22 @@ use std::test::Fail;
 const STREAM: &[u8] =
     b"\r\nPUT /frames/a?b HTTP/1.1\r\nHost: a\r\nContent-Length: 2\r\nConnection: x, Close \r\nLd-Seen: 7\r\nld-seen: 12\r\n\r\n{}GET /version HTTP/1.0\r\n\r\n";
 
-const REPLY: &[u8] =
+const MESSAGE: &[u8] = b"PUT /frames/a HTTP/1.0\r\nContent-Length: 8\r\n\r\n12345678";
+
+// The number of a call that isn't made.
+const NO_CALL: u64 = 1_000_000;
+
+const GET_ONLY: &[u8] =
     b"HTTP/1.1 405 Method Not Allowed\r\nContent-Type: application/json\r\nAllow: GET\r\nLd-Version: 3\r\nConnection: close\r\nContent-Length: 30\r\n\r\n";
+
+const POST_ONLY: &[u8] =
+    b"HTTP/1.1 405 Method Not Allowed\r\nContent-Type: application/json\r\nAllow: POST\r\nLd-Version: 3\r\nConnection: close\r\nContent-Length: 30\r\n\r\n";
+
+const FRAME_METHODS: &[u8] =
+    b"HTTP/1.1 405 Method Not Allowed\r\nContent-Type: application/json\r\nAllow: GET, PUT, DELETE\r\nLd-Version: 3\r\nConnection: close\r\nContent-Length: 30\r\n\r\n";
+
+const DOCUMENT: &[u8] =
+    b"HTTP/1.1 200 OK\r\nContent-Type: application/ld+json\r\nLd-Version: 18446744073709551615\r\nContent-Length: 0\r\n\r\n";
 
 fn source_of(alloc: Global, bytes: &[u8], piece: usize) -> Result<MemorySource, Fail>
     requires { 0 < piece }
@@ -107,22 +124,186 @@ fn heads_are_refused_for_their_first_cause(rt: HostRuntime) -> Result<(), Fail> 
     Ok(())
 }
 
+// What reading one message answers.
+#[derive(Clone, Copy, Debug, PartialEq, Eq)]
+enum Answer {
+    Whole,
+    NoMessage,
+    Head(HeadErr),
+    Body(BodyErr),
+}
+
+fn read_message(source: &mut MemorySource, buffers: &mut Buffers) -> Answer {
+    match read_head(source, buffers) {
+        Ok(Some(head)) => match read_body(source, buffers, head.length) {
+            Ok(()) => Answer::Whole,
+            Err(e) => Answer::Body(e),
+        },
+        Ok(None) => Answer::NoMessage,
+        Err(e) => Answer::Head(e),
+    }
+}
+
+// The answer for these bytes in pieces of this length, where one call of the source fails.
+fn message_of(alloc: Global, bytes: &[u8], piece: usize, call: u64) -> Result<Answer, Fail>
+    requires { 0 < piece }
+{
+    let mut failing = Vec::new(alloc);
+    failing.push(call)?;
+    let mut source = MemorySource::new(bytes.to_vec(alloc)?, piece, Calls::new(failing));
+    match Buffers::new(alloc) {
+        Ok(mut buffers) => Ok(read_message(&mut source, &mut buffers)),
+        Err(Memory) => Ok(Answer::Body(BodyErr::Memory)),
+    }
+}
+
+#[test]
+fn a_failed_read_is_answered_where_it_comes(rt: HostRuntime) -> Result<(), Fail> {
+    let alloc = rt.alloc();
+    for (call, wanted) in [
+        (0u64, Answer::Head(HeadErr::ReadFault)),
+        (1, Answer::Head(HeadErr::ReadFault)),
+        (2, Answer::Head(HeadErr::ReadFault)),
+        (3, Answer::Body(BodyErr::ReadFault)),
+        (4, Answer::Whole),
+    ] {
+        assert_eq!(rt; message_of(alloc, MESSAGE, 16, call)?, wanted);
+    }
+    Ok(())
+}
+
+#[test]
+fn a_message_cut_at_each_byte_is_cut_short(rt: HostRuntime) -> Result<(), Fail> {
+    let alloc = rt.alloc();
+    for cut in 0..MESSAGE.len() {
+        let wanted = if cut == 0 {
+            Answer::NoMessage
+        } else if cut < 45 {
+            Answer::Head(HeadErr::CutShort)
+        } else {
+            Answer::Body(BodyErr::CutShort)
+        };
+        let (front, _) = MESSAGE.split_at(cut);
+        assert_eq!(rt; message_of(alloc, front, 1, NO_CALL)?, wanted);
+        assert_eq!(rt; message_of(alloc, front, 7, NO_CALL)?, wanted);
+    }
+    Ok(())
+}
+
+// A head of 30 more bytes.
+fn long_head(alloc: Global, more: usize) -> Result<Vec<u8>, Fail> {
+    let mut head = b"GET /version HTTP/1.0\r\nA: ".as_slice().to_vec(alloc)?;
+    for _ in 0..more {
+        head.push(b'x')?;
+    }
+    head.extend_from_slice(b"\r\n\r\n".as_slice())?;
+    Ok(head)
+}
+
+fn head_of_lines(alloc: Global, count: usize) -> Result<Vec<u8>, Fail> {
+    let mut head = b"GET /version HTTP/1.0\r\n".as_slice().to_vec(alloc)?;
+    for _ in 0..count {
+        head.extend_from_slice(b"A: b\r\n".as_slice())?;
+    }
+    head.extend_from_slice(b"\r\n".as_slice())?;
+    Ok(head)
+}
+
+#[test]
+fn heads_at_the_limits_are_read(rt: HostRuntime) -> Result<(), Fail> {
+    let alloc = rt.alloc();
+    for (head, wanted) in [
+        (long_head(alloc, 16_354)?, Answer::Whole),
+        (long_head(alloc, 16_355)?, Answer::Head(HeadErr::TooLarge)),
+        (head_of_lines(alloc, 64)?, Answer::Whole),
+        (head_of_lines(alloc, 65)?, Answer::Head(HeadErr::TooLarge)),
+    ] {
+        assert_eq!(rt; message_of(alloc, &head, 1, NO_CALL)?, wanted);
+        assert_eq!(rt; message_of(alloc, &head, 7, NO_CALL)?, wanted);
+        assert_eq!(rt; message_of(alloc, &head, 4096, NO_CALL)?, wanted);
+    }
+    Ok(())
+}
+
+// Whether the plain reply of this status is this line and then what all of them have.
+fn begins(buffers: &mut Buffers, status: u16, line: &[u8]) -> bool
+    requires { IsTrue (is_named status) }
+{
+    let reply = ReplyHead {
+        status,
+        ld_json: false,
+        allow: Allow::NoAllow,
+        version: None,
+        close: false,
+        length: 7,
+    };
+    reply_head(buffers, &reply);
+    match buffers.reply().strip_prefix(line) {
+        Some(rest) => {
+            rest == b"\r\nContent-Type: application/json\r\nContent-Length: 7\r\n\r\n".as_slice()
+        }
+        None => false,
+    }
+}
+
 #[test]
 #[tactic(auto, unfolding(crate::specs::Reply::reason))]
-fn a_reply_head_has_its_lines_in_order(rt: HostRuntime) -> Result<(), Fail> {
+fn each_status_has_its_reason(rt: HostRuntime) -> Result<(), Fail> {
     let Ok(mut buffers) = Buffers::new(rt.alloc()) else {
         assert!(rt; false);
         return Ok(());
     };
+    let b = &mut buffers;
+    assert!(rt; begins(b, 200, b"HTTP/1.1 200 OK"));
+    assert!(rt; begins(b, 201, b"HTTP/1.1 201 Created"));
+    assert!(rt; begins(b, 202, b"HTTP/1.1 202 Accepted"));
+    assert!(rt; begins(b, 400, b"HTTP/1.1 400 Bad Request"));
+    assert!(rt; begins(b, 404, b"HTTP/1.1 404 Not Found"));
+    assert!(rt; begins(b, 405, b"HTTP/1.1 405 Method Not Allowed"));
+    assert!(rt; begins(b, 411, b"HTTP/1.1 411 Length Required"));
+    assert!(rt; begins(b, 413, b"HTTP/1.1 413 Content Too Large"));
+    assert!(rt; begins(b, 415, b"HTTP/1.1 415 Unsupported Media Type"));
+    assert!(rt; begins(b, 417, b"HTTP/1.1 417 Expectation Failed"));
+    assert!(rt; begins(b, 422, b"HTTP/1.1 422 Unprocessable Content"));
+    assert!(rt; begins(b, 431, b"HTTP/1.1 431 Request Header Fields Too Large"));
+    assert!(rt; begins(b, 501, b"HTTP/1.1 501 Not Implemented"));
+    assert!(rt; begins(b, 503, b"HTTP/1.1 503 Service Unavailable"));
+    assert!(rt; begins(b, 507, b"HTTP/1.1 507 Insufficient Storage"));
+    Ok(())
+}
+
+#[test]
+#[tactic(auto, unfolding(crate::specs::Reply::reason))]
+fn reply_heads_have_their_lines_in_order(rt: HostRuntime) -> Result<(), Fail> {
+    let Ok(mut buffers) = Buffers::new(rt.alloc()) else {
+        assert!(rt; false);
+        return Ok(());
+    };
+    for (allow, text) in [
+        (Allow::Get, GET_ONLY),
+        (Allow::Post, POST_ONLY),
+        (Allow::GetPutDelete, FRAME_METHODS),
+    ] {
+        let reply = ReplyHead {
+            status: 405,
+            ld_json: false,
+            allow,
+            version: Some(3),
+            close: true,
+            length: 30,
+        };
+        reply_head(&mut buffers, &reply);
+        assert_eq!(rt; buffers.reply(), text);
+    }
     let reply = ReplyHead {
-        status: 405,
-        ld_json: false,
-        allow: Allow::Get,
-        version: Some(3),
-        close: true,
-        length: 30,
+        status: 200,
+        ld_json: true,
+        allow: Allow::NoAllow,
+        version: Some(u64::MAX),
+        close: false,
+        length: 0,
     };
     reply_head(&mut buffers, &reply);
-    assert_eq!(rt; buffers.reply(), REPLY);
+    assert_eq!(rt; buffers.reply(), DOCUMENT);
     Ok(())
 }

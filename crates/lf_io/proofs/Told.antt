@@ -1,8 +1,8 @@
 -- Laws of bytes that are told or not.
-use Rattle.std.proofs.Common.{◌≡◌, ◌≤◌, ℕ, ◌+◌, List, [], ◌++◌, length, take, drop, Option, Some, None, refl, sym, ap, ◌∙◌, append_assoc}
-use Rattle.std.proofs.Math.Seq.{take-add}
-use Rattle.std.proofs.lemmas.List.{append-nil, take_all}
-use Rattle.lf_io.specs.Bytes.{prepended, appended}
+use Rattle.std.proofs.Common.{◌≡◌, ◌≤◌, ℕ, ◌+◌, List, [], ◌++◌, length, take, drop, Option, Some, None, refl, sym, ap, ◌∙◌, arith, append_assoc, length-append}
+use Rattle.std.proofs.Math.Seq.{take-add, take-append-add}
+use Rattle.std.proofs.lemmas.List.{append-nil, take_all, take-append-le}
+use Rattle.lf_io.specs.Bytes.{prepended, appended, AddsPart}
 
 pub appended_nothing : (told : Option (List ℕ)) → appended told [] ≡ told
 appended_nothing None = refl
@@ -36,3 +36,23 @@ pub prepended_twice :
     → prepended first (prepended second told) ≡ prepended (first ++ second) told
 prepended_twice first second None = refl
 prepended_twice first second (Some rest) = ap Some (sym (append_assoc first second rest))
+
+-- a part of the first text is a part of both
+pub part_of_first :
+    (old new : Option (List ℕ)) (first second : List ℕ) → AddsPart old new first → AddsPart old new (first ++ second)
+part_of_first old new first second (n, short, added) = (
+  n,
+  omega (arith, length-append first second, short),
+  added ∙ ap (λ piece. appended old piece) (sym (take-append-le n first second (omega (arith, short)))),
+)
+
+-- a part of the second text is a part of both, where the first was added
+pub part_of_second :
+    (old mid new : Option (List ℕ)) (first second : List ℕ)
+    → mid ≡ appended old first → AddsPart mid new second → AddsPart old new (first ++ second)
+part_of_second old mid new first second whole (n, short, added) = (
+  length first + n,
+  omega (arith, length-append first second, short),
+  added ∙ ap (λ told. appended told (take n second)) whole ∙ appended_twice old first (take n second)
+      ∙ ap (λ piece. appended old piece) (sym (take-append-add first second n)),
+)

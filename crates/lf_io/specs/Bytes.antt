@@ -1,5 +1,5 @@
 -- Bytes of sources and sinks that may or may not tell them.
-use Rattle.std.specs.Prelude.{◌≡◌, ⊤, List, [], ℕ, ◌++◌, Option, Some, None}
+use Rattle.std.specs.Prelude.{◌≡◌, ◌<◌, ⊤, List, [], ℕ, ◌++◌, length, take, Option, Some, None}
 
 -- these bytes, and then what is told
 abbrev pub prepended : List ℕ → Option (List ℕ) → Option (List ℕ)
@@ -15,3 +15,7 @@ appended (Some held) bytes = Some (held ++ bytes)
 abbrev pub HasEnded : Option (List ℕ) → Type 0
 HasEnded None = ⊤
 HasEnded (Some rest) = rest ≡ []
+
+-- some of the bytes were added, from the front, but not all
+abbrev pub AddsPart : Option (List ℕ) → Option (List ℕ) → List ℕ → Type 0
+AddsPart old new bytes = (n : ℕ) × (n < length bytes) × (new ≡ appended old (take n bytes))

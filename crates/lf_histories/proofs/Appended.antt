@@ -48,3 +48,17 @@ live_from-append count frames (first ∷ rest) entry =
   where
     joined : (a b c : ℕ) → a + b + c ≡ a + (b + c)
     joined a b c = omega arith
+
+pub live_from-more : (count : ℕ) (frames : List Live) (one two : List Operation)
+    → live_from count frames (one ++ two) ≡ live_from (count + registrations one) (live_from count frames one) two
+live_from-more count frames [] two = ap (λ (n : ℕ). live_from n frames two) (sym (plus_zero count))
+  where
+    plus_zero : (n : ℕ) → n + 0 ≡ n
+    plus_zero n = omega arith
+live_from-more count frames (first ∷ rest) two =
+    live_from-more (count + registrations (first ∷ [])) (live_step count frames first) rest two
+    ∙ ap (λ (n : ℕ). live_from n (live_from (count + registrations (first ∷ [])) (live_step count frames first) rest) two)
+    (joined count (registrations (first ∷ [])) (registrations rest) ∙ ap (λ (n : ℕ). count + n) (sym (registrations-cons first rest)))
+  where
+    joined : (a b c : ℕ) → a + b + c ≡ a + (b + c)
+    joined a b c = omega arith

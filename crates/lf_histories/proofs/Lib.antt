@@ -1,3 +1,5 @@
 pub mod Appended
 pub mod LegalProofs
 pub mod LiveProofs
+pub mod StandingProofs
+pub mod PublishedProofs

@@ -49,7 +49,7 @@ live_frames_step history entry =
 
 -- ---- what is found under a name
 
-text_is : (a : List ℕ) → text_eq a a ≡ true
+pub text_is : (a : List ℕ) → text_eq a a ≡ true
 text_is a = (bytes_decides a a).1 refl
 
 -- no frame is found under a name that is taken out

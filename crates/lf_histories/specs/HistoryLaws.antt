@@ -1,15 +1,18 @@
 -- What holds of all histories.
-use Rattle.std.specs.Prelude.{◌≡◌, ◌≤◌, ◌<◌, List, [], ◌∷◌, ◌++◌, ℕ, suc, Bool, false, Some, None}
+use Rattle.std.specs.Prelude.{◌≡◌, ◌≤◌, ◌<◌, List, [], ◌∷◌, ◌++◌, ℕ, suc, map, Bool, true, false, not, IsTrue, Option, Some, None}
+use Rattle.std.specs.List.{filter, list_all}
 use Rattle.lf_rdf.specs.declared.quad.Signed.{Signed}
 use Rattle.lf_rdf.specs.declared.quad.Patch.{Patch}
 use Rattle.lf_rdf.specs.Equality.{text_eq}
 use Rattle.lf_datasets.specs.Dataset.{after}
 use Rattle.lf_datasets.specs.VersionLaws.{has_line}
+use Rattle.lf_model.specs.declared.desk.Notice.{Notice}
+use Rattle.lf_histories.specs.declared.live.Live.{Live}
 use Rattle.lf_histories.specs.declared.operation.Operation.{Operation}
-use Rattle.lf_histories.specs.declared.operation.Operation.TheVariants.{Commit, Register, Retire}
+use Rattle.lf_histories.specs.declared.operation.Operation.TheVariants.{Commit, Register, Retire, Publish}
 use Rattle.lf_histories.specs.History.{commits, registrations, live_frames, live_step, live, registered}
-use Rattle.lf_histories.specs.Legal.{IsAllowed, IsLegal}
-use Rattle.lf_histories.specs.Replay.{dataset_at, newest_dataset}
+use Rattle.lf_histories.specs.Legal.{is_frame_name, IsAllowed, IsLegal}
+use Rattle.lf_histories.specs.Replay.{dataset_at, newest_dataset, notices}
 
 -- what a legal history begins with is legal
 abbrev pub PrefixIsLegal : Type 0
@@ -76,3 +79,44 @@ OthersStayLive =
     → (live (history ++ Register seat other text ∷ []) name ≡ live history name)
     × (live (history ++ Retire seat other ∷ []) name ≡ live history name)
     × (live (history ++ Commit seat patch ∷ []) name ≡ live history name)
+
+-- what is published of a live frame is of a version that was committed
+abbrev pub PublishedWasCommitted : Type 0
+PublishedWasCommitted =
+    (accepts : List ℕ → Bool) (history : List Operation) (name : List ℕ) (frame : Live) (version : ℕ)
+    → IsLegal accepts history → live history name ≡ Some frame → frame.published ≡ Some version → version ≤ commits history
+
+-- a frame that is live under a name has that name, which is one of a frame
+abbrev pub LiveIsNamed : Type 0
+LiveIsNamed =
+    (accepts : List ℕ → Bool) (history : List Operation) (name : List ℕ) (frame : Live)
+    → IsLegal accepts history → live history name ≡ Some frame → (frame.name ≡ name) × IsTrue (is_frame_name name)
+
+-- an entry neither registers the name anew nor retires it
+abbrev pub keeps : List ℕ → Operation → Bool
+keeps name (Commit seat patch) = true
+keeps name (Register seat other text) = not (text_eq name other)
+keeps name (Retire seat other) = not (text_eq name other)
+keeps name (Publish other version) = true
+
+-- the versions that entries publish under a name, in order
+abbrev pub versions_under : List ℕ → List Operation → List ℕ
+versions_under name entries =
+    map (λ (notice : Notice). notice.version) (filter (λ (notice : Notice). text_eq notice.frame name) (notices entries))
+
+-- the last of some versions, and where there is none the one before them
+abbrev pub last_after : Option ℕ → List ℕ → Option ℕ
+last_after before [] = before
+last_after before (version ∷ rest) = last_after (Some version) rest
+
+-- a registered frame, of which this version is published
+abbrev pub with_published : Live → Option ℕ → Live
+with_published frame version =
+    record { name = frame.name; number = frame.number; text = frame.text; published = version }
+
+-- what is published under a live name is its last publication after its registration
+abbrev pub PublishedIsLast : Type 0
+PublishedIsLast =
+    (history later : List Operation) (seat : ℕ) (name text : List ℕ) → IsTrue (list_all (keeps name) later)
+    → live (history ++ Register seat name text ∷ later) name
+    ≡ Some (with_published (registered name (text_number history) text) (last_after None (versions_under name later)))

@@ -1,4 +1,4 @@
-ghost use Rattle.lf_histories.specs.HistoryLaws.{PrefixIsLegal, AllowedIsLegal, DatasetsStay, CommitMakesVersion, PatchLinesInAnyOrder, TextNumbersRise, LiveFramesStep, LiveOnceRegistered, GoneOnceRetired, OthersStayLive};
+ghost use Rattle.lf_histories.specs.HistoryLaws.{PrefixIsLegal, AllowedIsLegal, DatasetsStay, CommitMakesVersion, PatchLinesInAnyOrder, TextNumbersRise, LiveFramesStep, LiveOnceRegistered, GoneOnceRetired, OthersStayLive, PublishedWasCommitted, LiveIsNamed, PublishedIsLast};
 
 /// What a legal history begins with is legal.
 #[tactic(auto, using(crate::proofs::LegalProofs::prefix_is_legal))]
@@ -58,4 +58,20 @@ pub fn gone_once_retired()
 #[tactic(auto, using(crate::proofs::LiveProofs::others_stay_live))]
 pub fn others_stay_live()
     ensures { OthersStayLive }
+{}
+
+/// What is published of a live frame is of a version that was committed.
+pub fn published_was_committed()
+    ensures { PublishedWasCommitted }
+{}
+
+/// A live frame has the name that it is found under, which is one of a frame.
+pub fn live_is_named()
+    ensures { LiveIsNamed }
+{}
+
+/// What is published under a live name is its last publication after its registration.
+#[tactic(auto, using(crate::proofs::PublishedProofs::published_is_last))]
+pub fn published_is_last()
+    ensures { PublishedIsLast }
 {}

@@ -8,8 +8,8 @@ use Rattle.lf_model.specs.declared.desk.RegisterErr.{RegisterErr}
 use Rattle.lf_histories.specs.declared.operation.Operation.{Operation}
 use Rattle.lf_histories.specs.History.{registrations, text_bytes}
 use Rattle.lf_histories.specs.Legal.{IsRegistration, is_frame_name, live_text, most_frame_bytes, most_frames, most_registrations, most_text_bytes}
-use Rattle.lf_core.specs.Replayed.{is_first_frame, most_first_bytes}
-use Rattle.lf_core.specs.Answers.{register_answer, is_live_text, others, is_not_built, limits_answer}
+use Rattle.lf_desk.specs.Accepted.{is_first_frame, most_first_bytes, is_not_built}
+use Rattle.lf_desk.specs.RegisterAnswer.{register_answer, is_live_text, others, limits_answer}
 
 is_fresh : Result Bool RegisterErr → Bool
 is_fresh (Ok fresh) = fresh

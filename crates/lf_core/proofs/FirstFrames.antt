@@ -3,7 +3,7 @@ use Rattle.std.proofs.Common.{◌≡◌, refl, sym, ap, ℕ, List, true, false, 
 use Rattle.lf_first.specs.First.{IsFirstFrame}
 use Rattle.lf_expand.specs.FirstFrame.{frame_at}
 use Rattle.lf_expand.proofs.Frame.{frame_takes, frame_again}
-use Rattle.lf_core.specs.Replayed.{is_first_frame}
+use Rattle.lf_desk.specs.Accepted.{is_first_frame}
 
 pub first_told : (bytes : List ℕ) (want : Option (List ℕ)) → IsFirstFrame bytes want → true ≡ is_first_frame bytes
 unfolding is_first_frame

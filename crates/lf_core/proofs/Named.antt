@@ -1,12 +1,13 @@
 -- The frame of a name, its place, and the frames without it.
-use Rattle.std.proofs.Common.{◌≡◌, refl, sym, ◌∙◌, ap, zero, suc, ◌<◌, ℕ, List, [], ◌∷◌, length, get_or, Bool, true, false, not, cond, Option, Some, None, is_some, IsSome, nat_lt, arith}
-use Rattle.std.specs.List.{filter, find, remove, position, position_or_len, slice_get}
-use Rattle.std.proofs.lemmas.Bool.{false≢true, ltb-false}
+use Rattle.std.proofs.Common.{◌≡◌, refl, sym, ◌∙◌, ap, zero, suc, ◌<◌, ℕ, List, [], ◌∷◌, length, get_or, Bool, true, false, not, cond, Option, Some, None, is_some, is_none, unwrap_or, IsSome, ◌&&◌, nat_lt, arith}
+use Rattle.std.specs.List.{filter, find, list_all, remove, position, position_or_len, slice_get}
+use Rattle.std.proofs.lemmas.Bool.{false≢true, and_parts, ltb-false}
 use Rattle.std.proofs.lemmas.List.Folds.{find_at}
 use Rattle.std.proofs.lemmas.Option.{slice_get_past}
 use Rattle.lf_rdf.specs.Equality.{text_eq}
 use Rattle.lf_histories.specs.declared.live.Live.{Live}
 use Rattle.lf_histories.specs.History.{find_frame, without}
+use Rattle.lf_desk.specs.Looks.{is_new_enough}
 
 pub some_from : {A : Type 0} (o : Option A) → is_some o ≡ true → IsSome o
 some_from None e = absurd (false≢true e)
@@ -59,3 +60,27 @@ unplaced p xs k false low e = slice_get_past xs k (ltb-false k (length xs) low)
 pub no_place : {X : Type 0} (p : X → Bool) (xs : List X) → position p xs ≡ None → is_some (find p xs) ≡ false
 no_place p xs e =
     ap is_some (find_at p xs ∙ unplaced p xs (position_or_len p xs) (nat_lt (position_or_len p xs) (length xs)) refl e)
+
+-- what is found passes the test that all pass
+all_found : (p q : Live → Bool) (first frame : Live) (rest : List Live) (b : Bool) → (p first && list_all p rest) ≡ true
+    → (list_all p rest ≡ true → find q rest ≡ Some frame → p frame ≡ true) → cond b (Some first) (find q rest) ≡ Some frame
+    → p frame ≡ true
+all_found p q first frame rest true all ih e = ap p (sym (ap (λ (o : Option Live). unwrap_or o first) e)) ∙ (and_parts (p first) (list_all p rest) all).0
+all_found p q first frame rest false all ih e = ih ((and_parts (p first) (list_all p rest) all).1) e
+
+passing : (p q : Live → Bool) (frames : List Live) (frame : Live) → list_all p frames ≡ true → find q frames ≡ Some frame
+    → p frame ≡ true
+passing p q [] frame all e = absurd (false≢true (ap is_some e))
+passing p q (first ∷ rest) frame all e =
+    all_found p q first frame rest (q first) all (passing p q rest frame) e
+
+too_old : (need : ℕ) (published : Option ℕ) → is_none published ≡ true → is_new_enough need published ≡ false
+too_old need None e = refl
+too_old need (Some version) e = absurd (false≢true e)
+
+pub not_new : (name : List ℕ) (frames : List Live) (frame : Live) (need : ℕ)
+    → list_all (λ (one : Live). is_none one.published) frames ≡ true → find_frame name frames ≡ Some frame
+    → is_new_enough need frame.published ≡ false
+not_new name frames frame need all e =
+    too_old need frame.published
+    (passing (λ (one : Live). is_none one.published) (λ (one : Live). text_eq name one.name) frames frame all e)

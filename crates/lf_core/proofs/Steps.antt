@@ -1,16 +1,45 @@
 -- What a state holds after one more entry.
-use Rattle.std.proofs.Common.{◌≡◌, refl, sym, ◌∙◌, ap, suc, ◌+◌, ◌<◌, ◌≤◌, ℕ, List, [], ◌∷◌, ◌++◌, length, length-append, true, is_some, arith}
+use Rattle.std.proofs.Common.{◌≡◌, refl, sym, ◌∙◌, ap, suc, ◌+◌, ◌<◌, ◌≤◌, ℕ, List, [], ◌∷◌, ◌++◌, length, length-append, Bool, true, false, cond, not, ◌&&◌, is_some, is_none, arith}
+use Rattle.std.specs.List.{filter, list_all}
+use Rattle.std.proofs.lemmas.Bool.{and_parts, and_from}
+use Rattle.lf_rdf.specs.declared.quad.Patch.{Patch}
+use Rattle.lf_rdf.specs.Equality.{text_eq}
+use Rattle.lf_datasets.specs.Dataset.{after}
+use Rattle.lf_datasets.proofs.VersionProofs.{versions_are_datasets}
 use Rattle.lf_rdf.specs.declared.quad.Quad.{Quad}
 use Rattle.lf_histories.specs.declared.live.Live.{Live}
 use Rattle.lf_histories.specs.declared.operation.Operation.{Operation}
-use Rattle.lf_histories.specs.declared.operation.Operation.TheVariants.{Register, Retire}
-use Rattle.lf_histories.specs.History.{registrations, text_bytes, live, find_frame, without, registered}
-use Rattle.lf_histories.specs.Legal.{IsRegistration}
+use Rattle.lf_histories.specs.declared.operation.Operation.TheVariants.{Commit, Register, Retire}
+use Rattle.lf_histories.specs.History.{patches, commits, registrations, text_bytes, live, find_frame, without, registered}
+use Rattle.lf_histories.specs.Legal.{IsCommit, IsRegistration}
+use Rattle.lf_histories.specs.Replay.{newest_dataset}
 use Rattle.lf_histories.proofs.Appended.{registrations-append, text_bytes-append}
 use Rattle.lf_histories.proofs.LegalProofs.{allowed_is_legal}
-use Rattle.lf_histories.proofs.LiveProofs.{no_version, live_frames_step}
-use Rattle.lf_core.specs.Replayed.{IsReplayed, is_first_frame, most_first_bytes}
+use Rattle.lf_histories.proofs.LiveProofs.{no_version, live_frames_step, commit_makes_version}
+use Rattle.lf_core.specs.Replayed.{IsReplayed}
+use Rattle.lf_core.specs.Unordered.{IsUnordered, kept, entered}
+use Rattle.lf_desk.specs.Accepted.{is_first_frame, most_first_bytes}
 use Rattle.lf_core.proofs.Named.{some_from}
+use Rattle.lf_core.proofs.UnorderedProofs.{patched}
+
+-- frames of which nothing is published stay such where some are left out, and where one is added
+left_at : (p q : Live → Bool) (frame : Live) (rest : List Live) (b : Bool) → (p frame && list_all p rest) ≡ true
+    → (list_all p rest ≡ true → list_all p (filter q rest) ≡ true)
+    → list_all p (cond b (frame ∷ filter q rest) (filter q rest)) ≡ true
+left_at p q frame rest true all ih = and_from (p frame) (list_all p (filter q rest)) (and_parts (p frame) (list_all p rest) all).0
+    (ih ((and_parts (p frame) (list_all p rest) all).1))
+left_at p q frame rest false all ih = ih ((and_parts (p frame) (list_all p rest) all).1)
+
+all_left : (p q : Live → Bool) (frames : List Live) → list_all p frames ≡ true → list_all p (filter q frames) ≡ true
+all_left p q [] all = refl
+all_left p q (frame ∷ rest) all = left_at p q frame rest (q frame) all (all_left p q rest)
+
+all_with : (p : Live → Bool) (frames : List Live) (frame : Live) → list_all p frames ≡ true → p frame ≡ true
+    → list_all p (frames ++ frame ∷ []) ≡ true
+all_with p [] frame all is = and_from (p frame) true is refl
+all_with p (first ∷ rest) frame all is =
+    and_from (p first) (list_all p (rest ++ frame ∷ [])) (and_parts (p first) (list_all p rest) all).0
+    (all_with p rest frame (and_parts (p first) (list_all p rest) all).1 is)
 
 pub retired : (history : List Operation) (quads : List Quad) (frames : List Live) (versions texts bytes places more seat : ℕ) (name : List ℕ)
     → IsReplayed history quads frames versions texts bytes places → is_some (find_frame name frames) ≡ true
@@ -21,6 +50,8 @@ retired history quads frames versions texts bytes places more seat name now foun
       legal = allowed_is_legal is_first_frame history entry now.legal
           (some_from (live history name) (ap (λ (w : List Live). is_some (find_frame name w)) (sym now.same_frames) ∙ found));
       same_quads = rw ((no_version history entry refl).1) now.same_quads;
+      few_quads = now.few_quads;
+      unpublished = all_left (λ (frame : Live). is_none frame.published) (λ (frame : Live). not (text_eq name frame.name)) frames now.unpublished;
       same_frames = ap (without name) now.same_frames ∙ sym (live_frames_step history entry);
       counts_versions = now.counts_versions ∙ sym ((no_version history entry refl).0);
       counts_texts = now.counts_texts ∙ sym (registrations-append history (entry ∷ []) ∙ nothing (registrations history));
@@ -61,6 +92,10 @@ put history quads frames versions texts bytes places seat name text grown left m
     rw entered (rw joined (record {
       legal = allowed_is_legal is_first_frame history entry now.legal may;
       same_quads = rw ((no_version history entry refl).1) now.same_quads;
+      few_quads = now.few_quads;
+      unpublished =
+          all_with (λ (frame : Live). is_none frame.published) (without name frames) (registered name (texts + 1) text)
+          (all_left (λ (frame : Live). is_none frame.published) (λ (frame : Live). not (text_eq name frame.name)) frames now.unpublished) refl;
       same_frames = (λ i. without name (now.same_frames i) ++ registered name (numbered i) text ∷ []) ∙ sym (live_frames_step history entry);
       counts_versions = now.counts_versions ∙ sym ((no_version history entry refl).0);
       counts_texts = rw (registrations-append history (entry ∷ [])) (rw (now.counts_texts) (one_more (registrations history)));
@@ -89,3 +124,36 @@ put history quads frames versions texts bytes places seat name text grown left m
 
     placed : (h w f : ℕ) → h + (f + 2) ≤ more → w ≤ f → h + 1 + (w + 1) ≤ more
     placed h w f fit low = omega (arith, fit, low)
+
+pub committed : (history : List Operation) (quads : List Quad) (frames : List Live) (versions texts bytes places seat : ℕ) (patch : Patch)
+    (grown : List Operation) (left : List Quad) (more : ℕ)
+    → IsReplayed history quads frames versions texts bytes places
+    → IsCommit history patch.bytes (length (after (newest_dataset history) patch.lines)) → text_bytes history + patch.bytes ≤ most_first_bytes
+    → grown ≡ history ++ Commit seat patch ∷ [] → left ≡ kept quads patch.lines ++ entered (newest_dataset history) patch.lines
+    → length history + (length frames + 1) ≤ more
+    → IsReplayed grown left frames (versions + 1) texts (bytes + patch.bytes) more
+committed history quads frames versions texts bytes places seat patch grown left more now may few made changed room =
+    rw made (rw changed (record {
+      legal = allowed_is_legal is_first_frame history entry now.legal may;
+      same_quads = rw ((commit_makes_version history seat patch).1) next;
+      few_quads = rw next.each_once may.held;
+      same_frames = now.same_frames ∙ sym (live_frames_step history entry);
+      unpublished = now.unpublished;
+      counts_versions = rw ((commit_makes_version history seat patch).0) (omega (arith, now.counts_versions));
+      counts_texts = now.counts_texts ∙ sym (registrations-append history (entry ∷ []) ∙ nothing (registrations history));
+      counts_bytes = rw sized (ap (λ (n : ℕ). n + patch.bytes) now.counts_bytes);
+      few_bytes = rw sized few;
+      has_places = rw (length-append history (entry ∷ [])) (omega (arith, room));
+    }))
+  where
+    entry : Operation
+    entry = Commit seat patch
+
+    next : IsUnordered (kept quads patch.lines ++ entered (newest_dataset history) patch.lines) (after (newest_dataset history) patch.lines)
+    next = patched quads (newest_dataset history) patch.lines (versions_are_datasets (patches history) (commits history)) now.same_quads
+
+    nothing : (n : ℕ) → n + 0 ≡ n
+    nothing n = omega arith
+
+    sized : text_bytes (history ++ Commit seat patch ∷ []) ≡ text_bytes history + patch.bytes
+    sized = text_bytes-append history (Commit seat patch ∷ []) ∙ ap (λ (n : ℕ). text_bytes history + n) (nothing patch.bytes)

@@ -1,2 +1,3 @@
 pub mod Replayed
-pub mod Answers
+pub mod Unordered
+pub mod Seat

@@ -1,52 +1,25 @@
 ghost use Rattle.std.specs.Prelude.{◌≡◌, ◌≤◌, length, IfOk, Some};
-ghost use Rattle.std.specs.List.{list_all};
 ghost use Rattle.lf_histories.specs.History.{registrations, text_bytes};
-ghost use Rattle.lf_histories.specs.Legal.{is_name_byte, is_frame_name};
-ghost use Rattle.lf_core.specs.Replayed.{is_first_frame, most_first_bytes};
-ghost use Rattle.lf_core.specs.Answers.{is_live_text, others, is_not_built, limits_answer, register_answer, Answers};
+ghost use Rattle.lf_desk.specs.Accepted.{is_first_frame, most_first_bytes, is_not_built};
+ghost use Rattle.lf_desk.specs.RegisterAnswer.{is_live_text, others, limits_answer, register_answer, Answers};
 
 use crate::state::State;
 use lf_base::Memory;
+use lf_desk::is_frame_name;
 use lf_expand::read_first_frame;
 use lf_first::FirstErr;
 use lf_model::{Counted, RegisterErr};
 use std::alloc::Global;
 
-const MOST_NAME: usize = 64;
-
 const MOST_FRAME_BYTES: usize = 65_536;
 
-const MOST_FIRST_BYTES: u64 = 65_536;
+pub const MOST_FIRST_BYTES: u64 = 65_536;
 
 const MOST_FRAMES: u64 = 16;
 
 const MOST_REGISTRATIONS: u64 = 65_536;
 
-const MOST_TEXT_BYTES: u64 = 268_435_456;
-
-fn is_name_byte(byte: u8) -> bool
-    ensures { result ≡ is_name_byte byte }
-{
-    (b'A' <= byte && byte <= b'Z')
-        || (b'a' <= byte && byte <= b'z')
-        || (b'0' <= byte && byte <= b'9')
-        || byte == b'_'
-        || byte == b'-'
-}
-
-fn are_name_bytes(name: &[u8]) -> bool
-    ensures { result ≡ list_all is_name_byte name.now }
-{
-    name.iter().all(|byte| is_name_byte(*byte))
-}
-
-/// Whether a text is the name of a frame: 1 to 64 letters, digits, `_` and `-`.
-#[tactic(auto, unfolding(lf_histories::specs::Legal::most_name))]
-fn is_frame_name(name: &[u8]) -> bool
-    ensures { result ≡ is_frame_name name.now }
-{
-    1 <= name.len() && name.len() <= MOST_NAME && are_name_bytes(name)
-}
+pub const MOST_TEXT_BYTES: u64 = 268_435_456;
 
 /// Whether a text is a frame of the first form.
 #[tactic(auto, using(crate::proofs::FirstFrames::first_told, crate::proofs::FirstFrames::not_told))]
@@ -90,7 +63,7 @@ fn check_limits(state: &State, name: &str, text: &str) -> Result<bool, RegisterE
 }
 
 /// Whether a text can't be used so far.
-#[tactic(auto, unfolding(crate::specs::Replayed::most_first_bytes))]
+#[tactic(auto, unfolding(lf_desk::specs::Accepted::most_first_bytes))]
 fn is_not_built(alloc: Global, state: &State, text: &str) -> Result<bool, Memory>
     requires short { length text.now ≤ 65536 }
     ensures { IfOk result (λ not_built. not_built ≡ is_not_built state.now text.now) }

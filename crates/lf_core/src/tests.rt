@@ -1,6 +1,8 @@
-use crate::State;
-use lf_base::Memory;
-use lf_model::{Look, RegisterErr};
+use crate::{CoreDesk, State};
+use lf_base::{Memory, Text};
+use lf_desk::Desk;
+use lf_model::{CommitErr, Doc, FramedNow, Look, RegisterErr};
+use lf_rdf::{Patch, Quad, Signed, SignedList, Term};
 use std::alloc::Global;
 use std::test::Fail;
 
@@ -8,76 +10,170 @@ const ALL: &str = "{}";
 
 const TYPED: &str = "{\"@type\":\"http://e/T\"}";
 
+const DOCUMENT: &str = "{\"@id\":\"http://e/a\",\"http://e/p\":\"x\"}";
+
+const XSD_STRING: &str = "http://www.w3.org/2001/XMLSchema#string";
+
 const NAMES: [&str; 16] = [
     "a", "b", "c", "d", "e", "f", "g", "h", "i", "j", "k", "l", "m", "n", "o", "p",
 ];
 
-fn is_bad_name(alloc: Global, state: &mut State, name: &str) -> bool {
-    matches!(
-        state.register(alloc, 1, name, ALL),
-        Err(RegisterErr::BadName)
-    )
+fn desk(alloc: Global) -> Result<CoreDesk, Memory> {
+    Ok(CoreDesk::new(State::new(alloc)?, 1))
 }
 
-fn is_new(alloc: Global, state: &mut State, name: &str, text: &str) -> bool {
-    matches!(state.register(alloc, 1, name, text), Ok(true))
+/// `<http://e/a> <http://e/p> "x" .`, or the same of a blank node with a label.
+fn quad(alloc: Global, blank: Option<&str>) -> Result<Quad, Memory> {
+    let subject = match blank {
+        Some(label) => Term::Blank(Text::of(alloc, label)?),
+        None => Term::Iri(Text::of(alloc, "http://e/a")?),
+    };
+    Ok(Quad {
+        subject,
+        predicate: Term::Iri(Text::of(alloc, "http://e/p")?),
+        object: Term::Literal {
+            lexical: Text::of(alloc, "x")?,
+            datatype: Text::of(alloc, XSD_STRING)?,
+            language: None,
+        },
+        graph: None,
+    })
+}
+
+/// A patch of a line for each sign, of one quad.
+fn patch(alloc: Global, signs: &[bool], blank: Option<&str>, bytes: u64) -> Result<Patch, Memory> {
+    let mut lines = SignedList::new(alloc);
+    for add in signs {
+        lines.push(Signed {
+            add: *add,
+            quad: quad(alloc, blank)?,
+        })?;
+    }
+    Ok(Patch { lines, bytes })
+}
+
+fn is_bad_name(alloc: Global, desk: &mut CoreDesk, name: &str) -> bool {
+    matches!(desk.register(alloc, name, ALL), Err(RegisterErr::BadName))
+}
+
+fn is_new(alloc: Global, desk: &mut CoreDesk, name: &str, text: &str) -> bool {
+    matches!(desk.register(alloc, name, text), Ok(true))
+}
+
+fn is_document(now: &Option<FramedNow>, version: u64, text: &str) -> bool {
+    match now {
+        Some(now) => match &now.doc {
+            Doc::Bytes(bytes) => now.version == version && bytes.as_str() == text,
+            Doc::Refused(_) => false,
+            Doc::Over(_) => false,
+        },
+        None => false,
+    }
+}
+
+#[test]
+fn first_session(rt: HostRuntime) -> Result<(), Fail> {
+    let alloc = rt.alloc();
+    let mut desk = desk(alloc)?;
+    let line = patch(alloc, &[true], None, 32)?;
+    assert!(rt; matches!(desk.commit(alloc, line), Ok(1)));
+    assert!(rt; is_new(alloc, &mut desk, "a", ALL));
+    let pending = desk.look(alloc, "a", 1)?;
+    assert!(rt;
+        matches!(
+            pending,
+            Look::Pending {
+                have: None,
+                need: 1
+            }
+        )
+    );
+    assert!(rt; is_document(&desk.frame_now(alloc, "a")?, 1, DOCUMENT));
+    assert!(rt; desk.frame_now(alloc, "b")?.is_none());
+    assert!(rt; matches!(desk.look(alloc, "b", 0)?, Look::Unknown));
+    let state = desk.into_state();
+    assert!(rt; state.newest_number() == 1);
+    assert!(rt; matches!(state.frame_text("a"), Some(text) if text.as_str() == ALL));
+    Ok(())
+}
+
+#[test]
+fn idle_commits_make_versions(rt: HostRuntime) -> Result<(), Fail> {
+    let alloc = rt.alloc();
+    let mut desk = desk(alloc)?;
+    assert!(rt; desk.newest() == 0 && is_new(alloc, &mut desk, "a", ALL));
+    let first = patch(alloc, &[true, true], None, 64)?;
+    assert!(rt; matches!(desk.commit(alloc, first), Ok(1)));
+    let both = patch(alloc, &[true, false], None, 68)?;
+    assert!(rt; matches!(desk.commit(alloc, both), Ok(2)));
+    let empty = patch(alloc, &[], None, 0)?;
+    assert!(rt; matches!(desk.commit(alloc, empty), Ok(3)));
+    assert!(rt; is_document(&desk.frame_now(alloc, "a")?, 3, DOCUMENT));
+    let away = patch(alloc, &[false], None, 34)?;
+    assert!(rt; matches!(desk.commit(alloc, away), Ok(4)) && desk.newest() == 4);
+    assert!(rt; is_document(&desk.frame_now(alloc, "a")?, 4, ALL));
+    Ok(())
+}
+
+#[test]
+fn patches_are_refused(rt: HostRuntime) -> Result<(), Fail> {
+    let alloc = rt.alloc();
+    let mut desk = desk(alloc)?;
+    let blank = patch(alloc, &[true], Some("b"), 24)?;
+    assert!(rt; matches!(desk.commit(alloc, blank), Err(CommitErr::NotBuilt)));
+    let longest = patch(alloc, &[true], None, 65_536)?;
+    assert!(rt; matches!(desk.commit(alloc, longest), Ok(1)));
+    let one_more = patch(alloc, &[false], None, 1)?;
+    assert!(rt; matches!(desk.commit(alloc, one_more), Err(CommitErr::NotBuilt)));
+    assert!(rt; desk.newest() == 1);
+    Ok(())
 }
 
 #[test]
 fn frames_come_and_go(rt: HostRuntime) -> Result<(), Fail> {
     let alloc = rt.alloc();
-    let mut state = State::new(alloc)?;
-    assert!(rt; is_new(alloc, &mut state, "f", ALL));
-    assert!(rt; matches!(state.register(alloc, 2, "f", ALL), Ok(false)));
-    assert!(rt; is_new(alloc, &mut state, "f", TYPED));
-    assert!(rt; matches!(state.frame_text("f"), Some(text) if text.as_str() == TYPED));
-    assert!(rt;
-        matches!(
-            state.look("f", 3)?,
-            Look::Pending {
-                have: None,
-                need: 3
-            }
-        )
-    );
-    assert!(rt; matches!(state.look("g", 0)?, Look::Unknown));
-    assert!(rt; state.newest_number() == 0);
-    assert!(rt; state.retire(1, "f") && !state.retire(1, "f"));
-    assert!(rt; state.frame_text("f").is_none());
+    let mut desk = desk(alloc)?;
+    assert!(rt; is_new(alloc, &mut desk, "f", ALL));
+    assert!(rt; is_new(alloc, &mut desk, "f", TYPED));
+    assert!(rt; matches!(desk.register(alloc, "f", TYPED), Ok(false)));
+    assert!(rt; desk.retire(alloc, "f")? && !desk.retire(alloc, "f")?);
+    assert!(rt; matches!(desk.look(alloc, "f", 0)?, Look::Unknown));
+    assert!(rt; desk.into_state().frame_text("f").is_none());
     Ok(())
 }
 
 #[test]
-fn registrations_are_refused(rt: HostRuntime) -> Result<(), Fail> {
+fn names_and_texts_are_refused(rt: HostRuntime) -> Result<(), Fail> {
     let alloc = rt.alloc();
-    let mut state = State::new(alloc)?;
-    assert!(rt; is_bad_name(alloc, &mut state, "") && is_bad_name(alloc, &mut state, "a b"));
+    let mut desk = desk(alloc)?;
+    assert!(rt; is_bad_name(alloc, &mut desk, "") && is_bad_name(alloc, &mut desk, "a b"));
     let long = "0123456789_ABCDEFGHIJKLMNOPQRSTUVWXYZ-abcdefghijklmnopqrstuvwxyz";
-    assert!(rt; is_new(alloc, &mut state, long, ALL) && state.retire(1, long));
-    assert!(rt;
-        is_bad_name(
-            alloc,
-            &mut state,
-            "0123456789_ABCDEFGHIJKLMNOPQRSTUVWXYZ-abcdefghijklmnopqrstuvwxyz0",
-        )
-    );
-    assert!(rt;
-        matches!(
-            state.register(alloc, 1, "f", "{ }"),
-            Err(RegisterErr::NotBuilt)
-        )
-    );
+    assert!(rt; is_new(alloc, &mut desk, long, ALL) && is_new(alloc, &mut desk, "a", ALL));
+    let longer = "0123456789_ABCDEFGHIJKLMNOPQRSTUVWXYZ-abcdefghijklmnopqrstuvwxyz0";
+    assert!(rt; is_bad_name(alloc, &mut desk, longer));
+    let spaced = desk.register(alloc, "f", "{ }");
+    assert!(rt; matches!(spaced, Err(RegisterErr::NotBuilt)));
+    Ok(())
+}
+
+#[test]
+fn too_many_frames(rt: HostRuntime) -> Result<(), Fail> {
+    let alloc = rt.alloc();
+    let mut desk = desk(alloc)?;
     for name in NAMES {
-        assert!(rt; is_new(alloc, &mut state, name, ALL));
+        assert!(rt; is_new(alloc, &mut desk, name, ALL));
     }
+    let refused = desk.register(alloc, "q", ALL);
     assert!(rt;
         matches!(
-            state.register(alloc, 1, "q", ALL),
+            refused,
             Err(RegisterErr::TooManyFrames {
                 have: 16,
                 would: 17
             })
         )
     );
+    assert!(rt; matches!(desk.register(alloc, "p", ALL), Ok(false)));
+    assert!(rt; !desk.retire(alloc, "q")?);
     Ok(())
 }

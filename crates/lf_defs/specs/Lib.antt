@@ -24,3 +24,11 @@ pub use Rattle.lf_documents.specs.Nodes
 pub use Rattle.lf_documents.specs.Pruning
 pub use Rattle.lf_documents.specs.Document
 pub use Rattle.lf_scratch.specs.Scratch
+pub use Rattle.lf_histories.specs.History
+pub use Rattle.lf_histories.specs.Replay
+pub use Rattle.lf_histories.specs.Legal
+pub use Rattle.lf_desk.specs.Seats
+pub use Rattle.lf_desk.specs.Calls
+pub use Rattle.lf_desk.specs.RegisterAnswer
+pub use Rattle.lf_desk.specs.CommitAnswer
+pub use Rattle.lf_desk.specs.Looks

@@ -3,7 +3,9 @@
 #![tactic(auto)]
 
 pub use lf_base::{ListOf, Memory, Same, Steps, Text, TextList, TryCopy};
+pub use lf_desk::Desk;
 pub use lf_grammar::LineKind;
+pub use lf_histories::{Live, Operation, OperationList};
 pub use lf_model::{
     CommitErr, Container, Counted, DefaultList, DefaultValue, Doc, Embed, Frame, FrameKind,
     FrameNode, FrameNodeList, FrameProp, FramePropList, FrameReverse, FrameReverseList, FramedNow,

@@ -1,7 +1,7 @@
 use Rattle.std.proofs.Common.{rules, ◌∙◌, ap, ◌+◌, List, length, arith}
 use Rattle.lf_histories.specs.declared.operation.Operation.{Operation}
 use Rattle.lf_histories.specs.History.{registrations, text_bytes}
-use Rattle.lf_core.specs.Answers.{register_answer}
+use Rattle.lf_desk.specs.RegisterAnswer.{register_answer}
 use Rattle.lf_core.proofs.Allowed.{allowed, few_registrations, few_bytes}
 use Rattle.lf_core.proofs.Steps.{put}
 use Rattle.lf_core.proofs.state.State.put_frame.Goals as goal

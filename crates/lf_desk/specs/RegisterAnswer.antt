@@ -1,21 +1,14 @@
--- What a state answers, as functions of its history. Refusals stand in the order in which they are tried.
-use Rattle.std.specs.Prelude.{◌≡◌, List, [], ◌∷◌, ◌++◌, ℕ, suc, ◌+◌, nat_lt, length, Bool, true, false, not, ◌||◌, if◌then◌else◌, Option, Some, None, Result, Ok, Err}
+-- What a registration answers, as a function of the history. Refusals stand in the order in which they are tried.
+use Rattle.std.specs.Prelude.{◌≡◌, List, [], ◌∷◌, ℕ, suc, ◌+◌, nat_lt, length, Bool, true, false, not, if◌then◌else◌, Some, Result, Ok, Err}
 use Rattle.lf_rdf.specs.Equality.{text_eq, option_eq}
-use Rattle.lf_model.specs.declared.desk.Look.{Look}
-use Rattle.lf_model.specs.declared.desk.Look.TheVariants.{Pending, Unknown}
 use Rattle.lf_model.specs.declared.desk.Counted.TheVariants.{Registrations, Bytes}
 use Rattle.lf_model.specs.declared.desk.RegisterErr.{RegisterErr}
 use Rattle.lf_model.specs.declared.desk.RegisterErr.TheVariants as r
-use Rattle.lf_histories.specs.declared.live.Live.{Live}
 use Rattle.lf_histories.specs.declared.operation.Operation.{Operation}
+use Rattle.lf_histories.specs.declared.operation.Operation.TheVariants.{Register}
 use Rattle.lf_histories.specs.History.{registrations, text_bytes, live_frames, without}
 use Rattle.lf_histories.specs.Legal.{most_frame_bytes, most_frames, most_registrations, most_text_bytes, is_frame_name, live_text}
-use Rattle.lf_core.specs.Replayed.{is_first_frame, most_first_bytes}
-
--- what stands at a name while no document is published: nothing, or a frame whose document is still to come
-abbrev pub look_of : Option Live → ℕ → Look
-look_of None need = Unknown
-look_of (Some frame) need = Pending frame.published need
+use Rattle.lf_desk.specs.Accepted.{is_not_built}
 
 -- whether the text is live under the name
 abbrev pub is_live_text : List Operation → List ℕ → List ℕ → Bool
@@ -34,10 +27,6 @@ limits_answer history name text =
     else if nat_lt most_text_bytes (text_bytes history + length text)
     then Err (r.HistoryFull Bytes (text_bytes history) most_text_bytes)
     else Ok true
-
--- whether a text can't be used so far: it isn't of the first form, or the texts grow too long
-abbrev pub is_not_built : List Operation → List ℕ → Bool
-is_not_built history text = not (is_first_frame text) || nat_lt most_first_bytes (text_bytes history + length text)
 
 -- a registration is new, or the text is live already, or it is refused
 abbrev pub register_answer : List Operation → List ℕ → List ℕ → Result Bool RegisterErr
@@ -64,7 +53,7 @@ abbrev pub Answers : Result Bool RegisterErr → Result Bool RegisterErr → Typ
 Answers (Ok fresh) answer = answer ≡ Ok fresh
 Answers (Err error) answer = Fails error answer
 
--- the history after a call with this entry, which stands in it where the call answered that it is new
-abbrev pub after_register : Result Bool RegisterErr → List Operation → Operation → List Operation
-after_register (Ok fresh) history entry = if fresh then history ++ entry ∷ [] else history
-after_register (Err error) history entry = history
+-- the entry that a registration makes: one where it is new
+abbrev pub registered_by : ℕ → List ℕ → List ℕ → Result Bool RegisterErr → List Operation
+registered_by seat name text (Ok fresh) = if fresh then Register seat name text ∷ [] else []
+registered_by seat name text (Err error) = []

@@ -1,0 +1,23 @@
+-- Seats: each operation but a publication tells the number of the seat that made it.
+use Rattle.std.specs.Prelude.{◌≡◌, List, [], ◌++◌, ℕ, nat_eq, Bool, true, false}
+use Rattle.std.specs.List.{filter}
+use Rattle.lf_histories.specs.declared.operation.Operation.{Operation}
+use Rattle.lf_histories.specs.declared.operation.Operation.TheVariants.{Commit, Register, Retire, Publish}
+
+-- the seat made the entry
+abbrev pub is_of_seat : ℕ → Operation → Bool
+is_of_seat seat (Commit by patch) = nat_eq by seat
+is_of_seat seat (Register by name text) = nat_eq by seat
+is_of_seat seat (Retire by name) = nat_eq by seat
+is_of_seat seat (Publish name version) = false
+
+-- the seat's own operations, in order
+abbrev pub own : ℕ → List Operation → List Operation
+own seat history = filter (is_of_seat seat) history
+
+-- A history goes on by entries of others, publications among them. With a seat that is alone there are none.
+pub record IsExtended (alone : Bool) (seat : ℕ) (before after : List Operation) : Type 0 where
+  pub more : List Operation
+  pub follows : after ≡ before ++ more
+  pub others : own seat more ≡ []
+  pub lone : alone ≡ true → more ≡ []

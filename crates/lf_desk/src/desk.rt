@@ -1,0 +1,68 @@
+ghost use Rattle.std.specs.Prelude.{◌≡◌, ◌≤◌, [], ℕ, Bool, List};
+ghost use Rattle.lf_histories.specs.declared.operation.Operation.{Operation};
+ghost use Rattle.lf_histories.specs.History.{commits};
+ghost use Rattle.lf_desk.specs.RegisterAnswer.{register_answer, Answers, registered_by};
+ghost use Rattle.lf_desk.specs.CommitAnswer.{commit_answer, CommitAnswers, committed_by};
+ghost use Rattle.lf_desk.specs.Looks.{Looks, Frames};
+ghost use Rattle.lf_desk.specs.Calls.{IsCall, Retires, retired_by};
+
+use lf_base::Memory;
+use lf_model::{CommitErr, FramedNow, Look, RegisterErr};
+use lf_rdf::Patch;
+use std::alloc::Global;
+
+/// A caller's place at a history. After each call the history is legal and goes on from the one before. What is new in
+/// it with the seat's number is the operation that the call made, as its last entry.
+pub trait Desk {
+    /// No other seat makes operations, and nothing is published by others.
+    ghost alone: { Self → Bool };
+
+    /// The number of the seat.
+    ghost seat: { Self → ℕ };
+
+    /// The history that the seat has seen.
+    ghost history: { Self → List Operation };
+
+    /// Commits a patch as the next version, and gives its number.
+    fn commit(&mut self, alloc: Global, patch: Patch) -> Result<u64, CommitErr>
+        ensures call { IsCall (alone self.old) (seat self.old) (history self.old) (history self.new)
+            (committed_by (seat self.old) patch result) (λ seen. CommitAnswers result (commit_answer seen patch)) }
+        ensures same_seat { seat self.new ≡ seat self.old }
+        ensures same_alone { alone self.new ≡ alone self.old };
+
+    /// Registers a frame's text under a name. Answers false where the text is live there already.
+    fn register(&mut self, alloc: Global, name: &str, text: &str) -> Result<bool, RegisterErr>
+        ensures call { IsCall (alone self.old) (seat self.old) (history self.old) (history self.new)
+            (registered_by (seat self.old) name.now text.now result)
+            (λ seen. Answers result (register_answer seen name.now text.now)) }
+        ensures same_seat { seat self.new ≡ seat self.old }
+        ensures same_alone { alone self.new ≡ alone self.old };
+
+    /// Ends a frame. Answers false exactly where no frame is live under the name.
+    fn retire(&mut self, alloc: Global, name: &str) -> Result<bool, Memory>
+        ensures call { IsCall (alone self.old) (seat self.old) (history self.old) (history self.new)
+            (retired_by (seat self.old) name.now result) (λ seen. Retires seen name.now result) }
+        ensures same_seat { seat self.new ≡ seat self.old }
+        ensures same_alone { alone self.new ≡ alone self.old };
+
+    /// The number of the newest version.
+    fn newest(&mut self) -> u64
+        ensures call { IsCall (alone self.old) (seat self.old) (history self.old) (history self.new) []
+            (λ seen. result ≡ commits seen) }
+        ensures same_seat { seat self.new ≡ seat self.old }
+        ensures same_alone { alone self.new ≡ alone self.old };
+
+    /// What stands at a name for a caller that needs a version. Only in place of a document may no memory be found.
+    fn look(&mut self, alloc: Global, name: &str, need: u64) -> Result<Look, Memory>
+        ensures call { IsCall (alone self.old) (seat self.old) (history self.old) (history self.new) []
+            (λ seen. Looks seen name.now need result) }
+        ensures same_seat { seat self.new ≡ seat self.old }
+        ensures same_alone { alone self.new ≡ alone self.old };
+
+    /// Frames the newest version from scratch and publishes nothing. `None` comes exactly where the name isn't live.
+    fn frame_now(&mut self, alloc: Global, name: &str) -> Result<Option<FramedNow>, Memory>
+        ensures call { IsCall (alone self.old) (seat self.old) (history self.old) (history self.new) []
+            (λ seen. Frames seen name.now result) }
+        ensures same_seat { seat self.new ≡ seat self.old }
+        ensures same_alone { alone self.new ≡ alone self.old };
+}

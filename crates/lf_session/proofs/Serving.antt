@@ -1,0 +1,273 @@
+-- A stream is served request by request.
+use Rattle.std.proofs.Common.{◌≡◌, ◌<◌, ◌∙◌, refl, sym, ap, subst, inl, inr, List, [], ◌++◌, ℕ, Bool, true, false, cond, length, take, Option, Some, None, Result, Ok, Err, append_assoc}
+use Rattle.std.proofs.lemmas.Bool.{false≢true}
+use Rattle.httparse.specs.Grammar.{RequestHead, IsRequestHead, print_request}
+use Rattle.lf_io.specs.Bytes.{prepended, appended, AddsPart, HasEnded}
+use Rattle.lf_io.proofs.Told.{prepended_twice, prepended_nothing, appended_nothing}
+use Rattle.lf_http.specs.declared.head.Head.{Head}
+use Rattle.lf_http.specs.declared.head.HeadErr.{HeadErr}
+use Rattle.lf_http.specs.declared.head.HeadErr.TheVariants as h
+use Rattle.lf_http.specs.Judge.{request_of, judged, is_bad, needs_length, head_of}
+use Rattle.lf_http.specs.Reading.{IsRefused, name_of}
+use Rattle.lf_histories.specs.declared.operation.Operation.{Operation}
+use Rattle.lf_session.specs.declared.ended.Ended.{Ended}
+use Rattle.lf_session.specs.declared.ended.Ended.TheVariants as ended
+use Rattle.lf_histories.specs.Legal.{IsLegal}
+use Rattle.lf_desk.specs.Accepted.{is_first_frame}
+use Rattle.lf_session.specs.Replies.{Reply, reply_bytes}
+use Rattle.lf_session.specs.Answers.{IsAnswered}
+use Rattle.lf_session.specs.Steps.{IsStep}
+use Rattle.lf_session.specs.Requests.{asked_by}
+use Rattle.lf_session.specs.Exchanges.{Exchange, IsExchange, needed}
+use Rattle.lf_session.specs.Session.{Last, nothing, request, refused, cut, faulted, no_room, no_buffers, due, IsLast, EndsBy}
+use Rattle.lf_session.specs.Served.{Ends, Serves, last_of, SendsLast, SendsReply, Replies}
+
+-- the whole of what is due was sent, or a part
+pub sends_whole : (last : Last) (held_before held_after : Option (List ℕ)) (e : Ended)
+    → held_after ≡ appended held_before (due last) → EndsBy last (due last) e → SendsLast last held_before held_after e
+sends_whole last held_before held_after e wrote by = record { sent = due last; writes = wrote; ends = by }
+
+pub sends_part : (last : Last) (held_before held_after : Option (List ℕ))
+    → AddsPart held_before held_after (due last) → SendsLast last held_before held_after ended.WriteFault
+sends_part last held_before held_after (n, short, wrote) =
+    record { sent = take n (due last); writes = wrote; ends = (n, short, refl) }
+
+is_no_buffers : Last → Bool
+is_no_buffers nothing = false
+is_no_buffers (request x) = false
+is_no_buffers (refused e reply) = false
+is_no_buffers cut = false
+is_no_buffers faulted = false
+is_no_buffers (no_room head) = false
+is_no_buffers no_buffers = true
+
+is_other : (x : Exchange) → is_no_buffers (request x) ≡ false
+unfolding is_no_buffers
+is_other x = refl
+
+other : (last : Last) → is_no_buffers last ≡ false → last ≡ no_buffers → ⊥
+unfolding is_no_buffers
+other last e same = false≢true (sym e ∙ ap is_no_buffers same)
+
+-- the input ended between messages
+pub ends_clean : (alone : Bool) (seat need : ℕ) (history : List Operation) (left0 left1 held : Option (List ℕ)) (pending : List ℕ)
+    → prepended pending left0 ≡ left1 → HasEnded left1
+    → Ends alone seat need history history record { left_before = left0; left_after = left1; held_before = held; held_after = held } pending ended.Clean
+unfolding is_no_buffers
+ends_clean alone seat need history left0 left1 held pending e end =
+    record {
+      last = nothing;
+      rest = [];
+      sent = [];
+      reads = e ∙ sym (prepended_nothing left1);
+      writes = sym (appended_nothing held);
+      stands = (refl, end, refl);
+      ends = (refl, refl);
+      read_some = other nothing refl;
+    }
+
+-- a judged head is never cut
+is_cut : Result Head HeadErr → Bool
+is_cut (Ok head) = false
+is_cut (Err h.CutShort) = true
+is_cut (Err h.ReadFault) = false
+is_cut (Err h.TooLarge) = false
+is_cut (Err h.BadHead) = false
+is_cut (Err h.LengthNeeded) = false
+is_cut (Err h.BodyTooLong) = false
+is_cut (Err h.Expectation) = false
+
+no_cut : (a b c d : Bool) (head : Head)
+    → cond a (Err h.BadHead) (cond b (Err h.LengthNeeded) (cond c (Err h.BodyTooLong) (cond d (Err h.Expectation) (Ok head)))) ≡ Err h.CutShort → ⊥
+unfolding is_cut
+no_cut true b c d head e = false≢true (ap is_cut e)
+no_cut false true c d head e = false≢true (ap is_cut e)
+no_cut false false true d head e = false≢true (ap is_cut e)
+no_cut false false false true head e = false≢true (ap is_cut e)
+no_cut false false false false head e = false≢true (ap is_cut e)
+
+stands_cut : (alone : Bool) (seat need : ℕ) (history : List Operation) (rest : List ℕ) (left : Option (List ℕ))
+    → IsRefused rest left h.CutShort → IsLast alone seat need history rest left cut history
+stands_cut alone seat need history rest left (inl lacks) = (inl lacks, refl)
+stands_cut alone seat need history rest left (inr (k, more, reads, why)) =
+    absurd (no_cut (is_bad (request_of k)) (needs_length (request_of k)) _ _ (head_of (request_of k)) why)
+
+stands : (alone : Bool) (seat need : ℕ) (history : List Operation) (rest : List ℕ) (left : Option (List ℕ)) (e : HeadErr)
+    → IsRefused rest left e → IsLast alone seat need history rest left (last_of e) history
+stands alone seat need history rest left h.ReadFault is = refl
+stands alone seat need history rest left h.CutShort is = stands_cut alone seat need history rest left is
+stands alone seat need history rest left h.TooLarge is = (refl, is, refl)
+stands alone seat need history rest left h.BadHead is = (refl, is, refl)
+stands alone seat need history rest left h.LengthNeeded is = (refl, is, refl)
+stands alone seat need history rest left h.BodyTooLong is = (refl, is, refl)
+stands alone seat need history rest left h.Expectation is = (refl, is, refl)
+
+last_is_other : (e : HeadErr) → is_no_buffers (last_of e) ≡ false
+unfolding is_no_buffers
+last_is_other h.ReadFault = refl
+last_is_other h.CutShort = refl
+last_is_other h.TooLarge = refl
+last_is_other h.BadHead = refl
+last_is_other h.LengthNeeded = refl
+last_is_other h.BodyTooLong = refl
+last_is_other h.Expectation = refl
+
+-- a head was refused
+pub ends_refused : (alone : Bool) (seat need : ℕ) (history : List Operation) (left0 left1 held0 held1 : Option (List ℕ)) (pending rest : List ℕ)
+    (e : HeadErr) (end : Ended)
+    → prepended pending left0 ≡ prepended rest left1 → IsRefused rest left1 e → SendsLast (last_of e) held0 held1 end
+    → Ends alone seat need history history record { left_before = left0; left_after = left1; held_before = held0; held_after = held1 } pending end
+ends_refused alone seat need history left0 left1 held0 held1 pending rest e end same is sends =
+    record {
+      last = last_of e;
+      rest = rest;
+      sent = sends.sent;
+      reads = same;
+      writes = sends.writes;
+      stands = stands alone seat need history rest left1 e is;
+      ends = sends.ends;
+      read_some = other (last_of e) (last_is_other e);
+    }
+
+-- what was read behind a head
+pub read_behind : (left0 left1 left2 : Option (List ℕ)) (pending front mid more : List ℕ)
+    → prepended pending left0 ≡ prepended (front ++ mid) left1 → prepended mid left1 ≡ prepended more left2
+    → prepended pending left0 ≡ prepended (front ++ more) left2
+read_behind left0 left1 left2 pending front mid more first second =
+    first ∙ sym (prepended_twice front mid left1) ∙ ap (λ (o : Option (List ℕ)). prepended front o) second ∙ prepended_twice front more left2
+
+-- the input ended inside a body
+pub ends_cut : (alone : Bool) (seat need : ℕ) (history : List Operation) (left0 left1 left2 held : Option (List ℕ)) (pending mid body : List ℕ)
+    (sent : RequestHead) (head : Head)
+    → IsRequestHead sent → judged (request_of sent) ≡ Ok head
+    → prepended pending left0 ≡ prepended (print_request sent ++ mid) left1 → prepended mid left1 ≡ prepended body left2
+    → length body < head.length → HasEnded left2
+    → Ends alone seat need history history record { left_before = left0; left_after = left2; held_before = held; held_after = held } pending ended.CutShort
+unfolding is_no_buffers
+ends_cut alone seat need history left0 left1 left2 held pending mid body sent head is accepted first second short end =
+    record {
+      last = cut;
+      rest = print_request sent ++ body;
+      sent = [];
+      reads = read_behind left0 left1 left2 pending (print_request sent) mid body first second;
+      writes = sym (appended_nothing held);
+      stands = (inr record { sent = sent; head = head; body = body; is_head = is; accepted = accepted; spelled = refl; short = short; ended = end }, refl);
+      ends = (refl, refl);
+      read_some = other cut refl;
+    }
+
+-- a read failed inside a body
+pub ends_faulted : (alone : Bool) (seat need : ℕ) (history : List Operation) (left0 left1 left2 held : Option (List ℕ)) (pending front mid more : List ℕ)
+    → prepended pending left0 ≡ prepended (front ++ mid) left1 → prepended mid left1 ≡ prepended more left2
+    → Ends alone seat need history history record { left_before = left0; left_after = left2; held_before = held; held_after = held } pending ended.ReadFault
+unfolding is_no_buffers
+ends_faulted alone seat need history left0 left1 left2 held pending front mid more first second =
+    record {
+      last = faulted;
+      rest = front ++ more;
+      sent = [];
+      reads = read_behind left0 left1 left2 pending front mid more first second;
+      writes = sym (appended_nothing held);
+      stands = refl;
+      ends = (refl, refl);
+      read_some = other faulted refl;
+    }
+
+-- no memory was found for a body
+pub ends_starved : (alone : Bool) (seat need : ℕ) (history : List Operation) (left0 left1 left2 held0 held1 : Option (List ℕ)) (pending mid more : List ℕ)
+    (sent : RequestHead) (head : Head) (end : Ended)
+    → IsRequestHead sent → judged (request_of sent) ≡ Ok head
+    → prepended pending left0 ≡ prepended (print_request sent ++ mid) left1 → prepended mid left1 ≡ prepended more left2
+    → 0 < head.length → SendsLast (no_room head) held0 held1 end
+    → Ends alone seat need history history record { left_before = left0; left_after = left2; held_before = held0; held_after = held1 } pending end
+unfolding is_no_buffers
+ends_starved alone seat need history left0 left1 left2 held0 held1 pending mid more sent head end is accepted first second some sends =
+    record {
+      last = no_room head;
+      rest = print_request sent ++ more;
+      sent = sends.sent;
+      reads = read_behind left0 left1 left2 pending (print_request sent) mid more first second;
+      writes = sends.writes;
+      stands = (record { sent = sent; more = more; is_head = is; accepted = accepted; spelled = refl; some = some }, refl);
+      ends = sends.ends;
+      read_some = other (no_room head) refl;
+    }
+
+-- an accepted request, as an exchange
+abbrev exchange : (sent : RequestHead) (head : Head) (body : List ℕ) (seen later made : List Operation) (reply : Reply) → Exchange
+exchange sent head body seen later made reply =
+    record { sent = sent; head = head; body = body; seen = seen; later = later; made = made; reply = reply }
+
+is_exchange : (alone : Bool) (seat need : ℕ) (before after : List Operation) (sent : RequestHead) (head : Head) (name body : List ℕ) (reply : Reply)
+    → IsRequestHead sent → judged (request_of sent) ≡ Ok head → length body ≡ head.length → name ≡ name_of sent.target
+    → (step : IsStep alone seat (needed need head) name body (asked_by head) before after reply)
+    → IsExchange alone seat need before (exchange sent head body step.seen step.later step.made reply)
+is_exchange alone seat need before after sent head name body reply is accepted whole named step =
+    record {
+      is_head = is;
+      accepted = accepted;
+      whole = whole;
+      came = step.came;
+      went = step.went;
+      legal = λ was. subst (λ (w : List Operation). IsLegal is_first_frame w) step.follows (step.legal was);
+      answered = subst (λ (w : List ℕ). IsAnswered seat w body (needed need head) (asked_by head) step.seen step.later step.made reply) named step.answered;
+    }
+
+-- a request was answered
+pub serves_request : (alone : Bool) (seat need need_after : ℕ) (before after : List Operation)
+    (left0 left1 left2 held0 held1 : Option (List ℕ)) (pending mid behind : List ℕ)
+    (sent : RequestHead) (head : Head) (name body : List ℕ) (result : Option Ended)
+    → IsRequestHead sent → judged (request_of sent) ≡ Ok head → length body ≡ head.length → name ≡ name_of sent.target
+    → prepended pending left0 ≡ prepended (print_request sent ++ mid) left1 → prepended mid left1 ≡ prepended (body ++ behind) left2
+    → Replies alone seat need need_after head name body before after held0 held1 result
+    → Serves alone seat need need_after before after record { left_before = left0; left_after = left2; held_before = held0; held_after = held1 } pending behind result
+serves_request alone seat need need_after before after left0 left1 left2 held0 held1 pending mid behind sent head name body result is accepted whole named first second r =
+    go result r.sends
+  where
+    is_x : IsExchange alone seat need before (exchange sent head body r.step.seen r.step.later r.step.made r.reply)
+    is_x = is_exchange alone seat need before after sent head name body r.reply is accepted whole named r.step
+
+    reads : prepended pending left0 ≡ prepended ((print_request sent ++ body) ++ behind) left2
+    reads =
+        read_behind left0 left1 left2 pending (print_request sent) mid (body ++ behind) first second
+        ∙ ap (λ (w : List ℕ). prepended w left2) (sym (append_assoc (print_request sent) body behind))
+
+    go : (o : Option Ended) → SendsReply head.close (reply_bytes head.method head.close r.reply) held0 held1 o
+        → Serves alone seat need need_after before after record { left_before = left0; left_after = left2; held_before = held0; held_after = held1 } pending behind o
+    go None sends =
+        record {
+          x = exchange sent head body r.step.seen r.step.later r.step.made r.reply;
+          is = is_x;
+          stays = sends.0;
+          reads = reads;
+          writes = sends.1;
+          needs = r.needs;
+          follows = r.step.follows;
+        }
+    go (Some ended.Asked) sends =
+        record {
+          last = request (exchange sent head body r.step.seen r.step.later r.step.made r.reply);
+          rest = (print_request sent ++ body) ++ behind;
+          sent = reply_bytes head.method head.close r.reply;
+          reads = reads;
+          writes = sends.1;
+          stands = (is_x, (behind, refl), r.step.follows);
+          ends = (exchange sent head body r.step.seen r.step.later r.step.made r.reply, refl, sends.0, refl);
+          read_some = other (request (exchange sent head body r.step.seen r.step.later r.step.made r.reply)) (is_other _);
+        }
+    go (Some ended.WriteFault) (n, short, wrote) =
+        record {
+          last = request (exchange sent head body r.step.seen r.step.later r.step.made r.reply);
+          rest = (print_request sent ++ body) ++ behind;
+          sent = take n (reply_bytes head.method head.close r.reply);
+          reads = reads;
+          writes = wrote;
+          stands = (is_x, (behind, refl), r.step.follows);
+          ends = (n, short, refl);
+          read_some = other (request (exchange sent head body r.step.seen r.step.later r.step.made r.reply)) (is_other _);
+        }
+    go (Some ended.Clean) sends = absurd sends
+    go (Some (ended.Bad status)) sends = absurd sends
+    go (Some ended.CutShort) sends = absurd sends
+    go (Some ended.ReadFault) sends = absurd sends
+    go (Some ended.Memory) sends = absurd sends

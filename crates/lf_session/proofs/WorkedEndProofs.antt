@@ -1,0 +1,133 @@
+-- The worked ends are some.
+use Rattle.std.proofs.Common.{refl, arith, [], true, inr, codes}
+use Rattle.std.specs.Char.{encode_utf8}
+use Rattle.std.proofs.lemmas.List.Elements.{All-nil}
+use Rattle.httparse.specs.Grammar.{RequestHead, IsRequestHead, IsField, is_token_byte, is_uri_byte, trim_ows, print_request, crlf}
+use Rattle.lf_http.specs.Judge.{method_of, target_of}
+use Rattle.lf_session.specs.ReplyCases.{replies_open}
+use Rattle.lf_session.specs.Exchanges.{IsExchange}
+use Rattle.lf_session.specs.FirstSession.{request_head, commit_exchange}
+use Rattle.lf_session.specs.WorkedEnds.{closing_get, closing_patch, WorkedEnds}
+use Rattle.lf_session.proofs.FirstSessionProofs.{passes, a_head, one_field, as_it_was, commit-head}
+
+-- a head without lines
+abbrev bare : RequestHead
+bare = record { blank = []; method = codes "GET"; target = codes "/version"; minor = 1; line_end = crlf; fields = []; last = crlf }
+
+bare-is : IsRequestHead bare
+unfolding is_token_byte encode_utf8
+bare-is = record {
+  method = (omega arith, passes is_token_byte (codes "GET") refl);
+  target = (omega arith, passes is_uri_byte (codes "/version") refl);
+  target_text = (codes "/version", (refl, refl));
+  minor = omega arith;
+  fields = All-nil IsField;
+}
+
+abbrev put : RequestHead
+put = request_head (codes "PUT") (codes "/frames/a") []
+
+put-is : IsRequestHead put
+unfolding is_token_byte encode_utf8
+put-is = a_head (codes "PUT") (codes "/frames/a") [] (omega arith) refl (omega arith) refl (codes "/frames/a", (refl, refl)) (All-nil IsField)
+
+get-head : IsRequestHead closing_get.sent
+unfolding is_token_byte encode_utf8
+get-head = a_head (codes "GET") (codes "/version") _ (omega arith) refl (omega arith) refl (codes "/version", (refl, refl))
+    (one_field (codes "Connection") (codes " close") (omega arith) refl refl)
+
+patch-head : IsRequestHead closing_patch.sent
+unfolding is_token_byte encode_utf8
+patch-head = a_head (codes "PATCH") (codes "/version") _ (omega arith) refl (omega arith) refl (codes "/version", (refl, refl))
+    (one_field (codes "Connection") (codes " close") (omega arith) refl refl)
+
+get-is : IsExchange true 1 0 [] closing_get
+unfolding method_of target_of trim_ows
+get-is = record {
+  is_head = get-head;
+  accepted = refl;
+  whole = refl;
+  came = as_it_was [];
+  went = as_it_was [];
+  legal = λ legal. legal;
+  answered = (refl, refl, refl);
+}
+
+patch-is : IsExchange true 1 0 [] closing_patch
+unfolding method_of target_of trim_ows
+patch-is = record {
+  is_head = patch-head;
+  accepted = refl;
+  whole = refl;
+  came = as_it_was [];
+  went = as_it_was [];
+  legal = λ legal. legal;
+  answered = (refl, refl, refl);
+}
+
+pub worked_ends : WorkedEnds
+unfolding replies_open method_of target_of trim_ows print_request
+worked_ends = record {
+  no_host = record {
+    rest = codes "GET /version HTTP/1.1\r\n\r\n";
+    sent = _;
+    chain = tt;
+    read = refl;
+    wrote = refl;
+    stands = (refl, inr (bare, [], (bare-is, refl), refl), refl);
+    ends = (_, _, refl, refl, refl);
+    unread = λ e. refl;
+  };
+  no_length = record {
+    rest = codes "PUT /frames/a HTTP/1.1\r\nHost: x\r\n\r\n";
+    sent = _;
+    chain = tt;
+    read = refl;
+    wrote = refl;
+    stands = (refl, inr (put, [], (put-is, refl), refl), refl);
+    ends = (_, _, refl, refl, refl);
+    unread = λ e. refl;
+  };
+  cut_body = record {
+    rest = codes "POST /patch HTTP/1.1\r\nHost: x\r\nContent-Length: 32\r\n\r\n<http://e/a>";
+    sent = [];
+    chain = tt;
+    read = refl;
+    wrote = refl;
+    stands = (
+      inr (record {
+        sent = commit_exchange.sent;
+        head = commit_exchange.head;
+        body = codes "<http://e/a>";
+        is_head = commit-head;
+        accepted = refl;
+        spelled = refl;
+        short = omega arith;
+        ended = refl;
+      }),
+      refl,
+    );
+    ends = (refl, refl);
+    unread = λ e. refl;
+  };
+  closed = record {
+    rest = codes "PATCH /version HTTP/1.1\r\nHost: x\r\nConnection: close\r\n\r\nGET /version HTTP/1.1\r\nHost: x\r\n\r\n";
+    sent = _;
+    chain = tt;
+    read = refl;
+    wrote = refl;
+    stands = (patch-is, (codes "GET /version HTTP/1.1\r\nHost: x\r\n\r\n", refl), refl);
+    ends = (closing_patch, refl, refl, refl);
+    unread = λ e. refl;
+  };
+  write_failed = record {
+    rest = codes "GET /version HTTP/1.1\r\nHost: x\r\nConnection: close\r\n\r\n";
+    sent = codes "HTTP/1.1 2";
+    chain = tt;
+    read = refl;
+    wrote = refl;
+    stands = (get-is, ([], refl), refl);
+    ends = (10, omega arith, refl);
+    unread = λ e. refl;
+  };
+}

@@ -1,0 +1,91 @@
+-- How a request is answered by the history that its seat has seen: what it makes, and the reply.
+use Rattle.std.specs.Prelude.{◌≡◌, ◌⊎◌, ◌≤◌, ◌<◌, List, [], ℕ, nat_lt, length, not, if◌then◌else◌, Option, Bool, Result, Ok, Err, IsUtf8, IsTrue}
+use Rattle.std.specs.List.{list_all}
+use Rattle.lf_base.specs.declared.memory.Memory.{Memory}
+use Rattle.lf_rdf.specs.declared.quad.Patch.{Patch}
+use Rattle.lf_rdf.specs.declared.quad.Quad.{Quad}
+use Rattle.lf_model.specs.declared.desk.CommitErr.{CommitErr}
+use Rattle.lf_model.specs.declared.desk.RegisterErr.{RegisterErr}
+use Rattle.lf_model.specs.declared.desk.RegisterErr.TheVariants as r
+use Rattle.lf_model.specs.declared.desk.Look.{Look}
+use Rattle.lf_model.specs.declared.desk.Look.TheVariants as looked
+use Rattle.lf_model.specs.declared.desk.FramedNow.{FramedNow}
+use Rattle.lf_first.specs.First.{IsFirstText, quads_of}
+use Rattle.lf_histories.specs.declared.operation.Operation.{Operation}
+use Rattle.lf_histories.specs.History.{commits}
+use Rattle.lf_histories.specs.Legal.{is_frame_name, most_frame_bytes}
+use Rattle.lf_desk.specs.RegisterAnswer.{register_answer, Answers, registered_by}
+use Rattle.lf_desk.specs.CommitAnswer.{commit_answer, CommitAnswers, committed_by}
+use Rattle.lf_desk.specs.Looks.{Looks, Frames}
+use Rattle.lf_desk.specs.Calls.{Retires, retired_by}
+use Rattle.lf_session.specs.declared.request.Asked.{Asked}
+use Rattle.lf_session.specs.declared.request.Asked.TheVariants as asked
+use Rattle.lf_session.specs.Replies.{Reply, out_of_memory, not_built, version_reply, commit_reply, register_reply, retire_reply, look_reply, framed_reply}
+use Rattle.lf_session.specs.Requests.{refused_reply}
+
+-- a frame's text that isn't UTF-8: its name and its length are tried first
+abbrev pub no_text_answer : List ℕ → List ℕ → Result Bool RegisterErr
+no_text_answer name body =
+    if not (is_frame_name name) then Err r.BadName
+    else if nat_lt most_frame_bytes (length body) then Err (r.FrameTooLong (length body))
+    else Err r.NotBuilt
+
+-- a registration answers so
+abbrev pub Registers : List Operation → List ℕ → List ℕ → Result Bool RegisterErr → Type 0
+Registers seen name body result =
+    (IsUtf8 body × Answers result (register_answer seen name body))
+    ⊎ ((IsUtf8 body → ⊥) × (result ≡ no_text_answer name body))
+
+-- the body is a patch text of the first form, which adds these quads
+pub record IsPatch (body : List ℕ) (patch : Patch) : Type 0 where
+  pub states : IsFirstText body (quads_of patch.lines)
+  pub adds : IsTrue (list_all (λ line. line.add) patch.lines)
+  pub sized : patch.bytes ≡ length body
+
+-- a patch is committed or refused
+pub record IsCommitted (seat : ℕ) (body : List ℕ) (seen made : List Operation) (reply : Reply) : Type 0 where
+  pub patch : Patch
+  pub reads : IsPatch body patch
+  pub result : Result ℕ CommitErr
+  pub says : CommitAnswers result (commit_answer seen patch)
+  pub makes : made ≡ committed_by seat patch result
+  pub replies : reply ≡ commit_reply result
+
+-- or its text is refused, or no memory is found for it
+abbrev pub Commits : ℕ → List ℕ → List Operation → List Operation → Reply → Type 0
+Commits seat body seen made reply =
+    IsCommitted seat body seen made reply
+    ⊎ ((made ≡ []) × (reply ≡ not_built) × ((quads : List Quad) → IsFirstText body quads → ⊥))
+    ⊎ ((made ≡ []) × (reply ≡ out_of_memory))
+
+-- What is published is too old, and the newest version is asked for: it is framed where it is new enough.
+abbrev pub Refreshes : List ℕ → ℕ → List Operation → List Operation → Result Look Memory → Reply → Type 0
+Refreshes name need seen later (Ok (looked.Pending have needed)) reply =
+    ((need ≤ commits later) × ((framed : Result (Option FramedNow) Memory) × Frames later name framed × (reply ≡ framed_reply framed)))
+    ⊎ ((commits later < need) × (reply ≡ look_reply (Ok (looked.Pending have needed))))
+Refreshes name need seen later (Ok (looked.Document doc version)) reply =
+    (later ≡ seen) × (reply ≡ look_reply (Ok (looked.Document doc version)))
+Refreshes name need seen later (Ok looked.Unknown) reply = (later ≡ seen) × (reply ≡ look_reply (Ok looked.Unknown))
+Refreshes name need seen later (Err refused) reply = (later ≡ seen) × (reply ≡ look_reply (Err refused))
+
+-- A request is answered by the history seen, and where the newest version was asked for, by a later one.
+abbrev pub IsAnswered : ℕ → List ℕ → List ℕ → ℕ → Asked → List Operation → List Operation → List Operation → Reply → Type 0
+IsAnswered seat name body need (asked.Refused why) seen later made reply =
+    (later ≡ seen) × (made ≡ []) × (reply ≡ refused_reply why)
+IsAnswered seat name body need asked.Put seen later made reply =
+    (later ≡ seen)
+    × ((result : Result Bool RegisterErr) × Registers seen name body result × (made ≡ registered_by seat name body result)
+    × (reply ≡ register_reply name result))
+IsAnswered seat name body need asked.Delete seen later made reply =
+    (later ≡ seen)
+    × ((result : Result Bool Memory) × Retires seen name result × (made ≡ retired_by seat name result)
+    × (reply ≡ retire_reply name result))
+IsAnswered seat name body need asked.Get seen later made reply =
+    (later ≡ seen) × (made ≡ [])
+    × ((result : Result Look Memory) × Looks seen name need result × (reply ≡ look_reply result))
+IsAnswered seat name body need asked.GetNow seen later made reply =
+    (made ≡ [])
+    × ((result : Result Look Memory) × Looks seen name need result × Refreshes name need seen later result reply)
+IsAnswered seat name body need asked.Commit seen later made reply = (later ≡ seen) × Commits seat body seen made reply
+IsAnswered seat name body need asked.Version seen later made reply =
+    (later ≡ seen) × (made ≡ []) × (reply ≡ version_reply (commits seen))

@@ -1,0 +1,64 @@
+-- The bodies of replies other than documents: JSON texts in compact form (RFC 8259).
+use Rattle.std.specs.Prelude.{List, ℕ, ◌++◌, Option, Some, None, codes, decimal}
+use Rattle.lf_printed.specs.JsonText.{json_string}
+use Rattle.lf_model.specs.declared.desk.Counted.{Counted}
+use Rattle.lf_model.specs.declared.desk.Counted.TheVariants as counted
+use Rattle.lf_model.specs.declared.document.Limit.{Limit}
+use Rattle.lf_model.specs.declared.document.Limit.TheVariants as limits
+
+-- an error without more; its text needs no escape
+unfoldable pub error_body : List ℕ → List ℕ
+error_body text = codes "{\"error\":\"" ++ text ++ codes "\"}"
+
+-- a frame's name, which needs no escape
+unfoldable pub frame_body : List ℕ → List ℕ
+frame_body name = codes "{\"frame\":\"" ++ name ++ codes "\"}"
+
+unfoldable pub version_body : ℕ → List ℕ
+version_body version = codes "{\"version\":" ++ decimal version ++ codes "}"
+
+abbrev pub number_or_null : Option ℕ → List ℕ
+number_or_null None = codes "null"
+number_or_null (Some number) = decimal number
+
+-- what is published and what is needed
+unfoldable pub pending_body : Option ℕ → ℕ → List ℕ
+pending_body have need = codes "{\"have\":" ++ number_or_null have ++ codes ",\"need\":" ++ decimal need ++ codes "}"
+
+unfoldable pub frame_too_long_body : ℕ → List ℕ
+frame_too_long_body size = codes "{\"error\":\"frame too long\",\"length\":" ++ decimal size ++ codes "}"
+
+-- something would be more than may be
+unfoldable pub too_many_body : List ℕ → ℕ → ℕ → List ℕ
+too_many_body what have would =
+    codes "{\"error\":\"too many " ++ what ++ codes "\",\"have\":" ++ decimal have ++ codes ",\"would\":" ++ decimal would ++ codes "}"
+
+unfoldable pub counted_name : Counted → List ℕ
+counted_name counted.Commits = codes "commits"
+counted_name counted.Registrations = codes "registrations"
+counted_name counted.Bytes = codes "bytes"
+
+unfoldable pub history_full_body : Counted → ℕ → ℕ → List ℕ
+history_full_body of have most =
+    codes "{\"error\":\"history full\",\"have\":" ++ decimal have ++ codes ",\"limit\":" ++ decimal most ++ codes ",\"of\":\""
+    ++ counted_name of ++ codes "\"}"
+
+-- a path is any text, and is escaped
+unfoldable pub fractional_body : List ℕ → List ℕ
+fractional_body path = codes "{\"error\":\"fractional number\",\"path\":" ++ json_string path ++ codes "}"
+
+unfoldable pub limit_name : Limit → List ℕ
+limit_name limits.TreeItems = codes "tree items"
+limit_name limits.Depth = codes "depth"
+limit_name limits.DocumentItems = codes "document items"
+limit_name limits.DocumentBytes = codes "document bytes"
+
+unfoldable pub limit_number : Limit → ℕ
+limit_number limits.TreeItems = 65536
+limit_number limits.Depth = 256
+limit_number limits.DocumentItems = 262144
+limit_number limits.DocumentBytes = 33554432
+
+unfoldable pub limit_body : Limit → List ℕ
+limit_body limit =
+    codes "{\"error\":\"document limit\",\"limit\":\"" ++ limit_name limit ++ codes "\",\"number\":" ++ decimal (limit_number limit) ++ codes "}"

@@ -1,0 +1,85 @@
+-- What an accepted head asks for, or why it is refused. Refusals stand in the order in which they are tried.
+use Rattle.std.specs.Prelude.{Bool, false, not, if◌then◌else◌, None, codes}
+use Rattle.lf_http.specs.declared.head.Head.{Head}
+use Rattle.lf_http.specs.declared.head.Method.{Method}
+use Rattle.lf_http.specs.declared.head.Method.TheVariants as method
+use Rattle.lf_http.specs.declared.head.Target.{Target}
+use Rattle.lf_http.specs.declared.head.Target.TheVariants as target
+use Rattle.lf_http.specs.declared.reply.Allow.{Allow}
+use Rattle.lf_http.specs.declared.reply.Allow.TheVariants as allow
+use Rattle.lf_session.specs.declared.request.Refusal.{Refusal}
+use Rattle.lf_session.specs.declared.request.Refusal.TheVariants as refused
+use Rattle.lf_session.specs.declared.request.Asked.{Asked}
+use Rattle.lf_session.specs.declared.request.Asked.TheVariants as asked
+use Rattle.lf_session.specs.Bodies.{error_body}
+use Rattle.lf_session.specs.Replies.{Reply, plain}
+
+-- the methods that a target has (RFC 9110, section 10.2.1)
+abbrev pub allowed : Target → Allow
+allowed target.FrameAt = allow.GetPutDelete
+allowed target.PatchAt = allow.Post
+allowed target.VersionAt = allow.Get
+allowed target.NoTarget = allow.NoAllow
+
+-- what the method asks for at the target; `now` asks for the newest version
+abbrev pub at_frame : Method → Bool → Asked
+at_frame method.Get now = if now then asked.GetNow else asked.Get
+at_frame method.Put now = asked.Put
+at_frame method.Delete now = asked.Delete
+at_frame method.Post now = asked.Refused (refused.MethodNotAllowed allow.GetPutDelete)
+at_frame method.HeadOnly now = asked.Refused (refused.MethodNotAllowed allow.GetPutDelete)
+at_frame method.OtherMethod now = asked.Refused (refused.MethodNotAllowed allow.GetPutDelete)
+
+abbrev pub at_patch : Method → Asked
+at_patch method.Post = asked.Commit
+at_patch method.Get = asked.Refused (refused.MethodNotAllowed allow.Post)
+at_patch method.Put = asked.Refused (refused.MethodNotAllowed allow.Post)
+at_patch method.Delete = asked.Refused (refused.MethodNotAllowed allow.Post)
+at_patch method.HeadOnly = asked.Refused (refused.MethodNotAllowed allow.Post)
+at_patch method.OtherMethod = asked.Refused (refused.MethodNotAllowed allow.Post)
+
+abbrev pub at_version : Method → Asked
+at_version method.Get = asked.Version
+at_version method.Put = asked.Refused (refused.MethodNotAllowed allow.Get)
+at_version method.Delete = asked.Refused (refused.MethodNotAllowed allow.Get)
+at_version method.Post = asked.Refused (refused.MethodNotAllowed allow.Get)
+at_version method.HeadOnly = asked.Refused (refused.MethodNotAllowed allow.Get)
+at_version method.OtherMethod = asked.Refused (refused.MethodNotAllowed allow.Get)
+
+abbrev pub at_target : Head → Target → Asked
+at_target head target.FrameAt = at_frame head.method head.now
+at_target head target.PatchAt = at_patch head.method
+at_target head target.VersionAt = at_version head.method
+at_target head target.NoTarget = asked.Refused refused.NoSuchPath
+
+-- a line of the session that isn't well formed
+abbrev pub checked : Head → Asked → Asked
+checked head wanted =
+    if head.bad_seen then asked.Refused refused.BadSeen
+    else if head.bad_refresh then asked.Refused refused.BadRefresh
+    else wanted
+
+-- it is refused where all else is right
+abbrev pub with_lines : Head → Asked → Asked
+with_lines head (asked.Refused why) = asked.Refused why
+with_lines head asked.Put = checked head asked.Put
+with_lines head asked.Delete = checked head asked.Delete
+with_lines head asked.Get = checked head asked.Get
+with_lines head asked.GetNow = checked head asked.GetNow
+with_lines head asked.Commit = checked head asked.Commit
+with_lines head asked.Version = checked head asked.Version
+
+-- what is asked for
+abbrev pub asked_by : Head → Asked
+asked_by head =
+    if not head.plain then asked.Refused refused.ContentEncoding
+    else with_lines head (at_target head head.target)
+
+-- the reply to a refused request
+abbrev pub refused_reply : Refusal → Reply
+refused_reply refused.ContentEncoding = plain 415 (error_body (codes "content encoding"))
+refused_reply refused.NoSuchPath = plain 404 (error_body (codes "no such path"))
+refused_reply (refused.MethodNotAllowed allow) =
+    record { status = 405; ld_json = false; allow = allow; version = None; body = error_body (codes "method not allowed") }
+refused_reply refused.BadSeen = plain 400 (error_body (codes "bad Ld-Seen"))
+refused_reply refused.BadRefresh = plain 400 (error_body (codes "bad Ld-Refresh"))

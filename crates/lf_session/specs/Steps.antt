@@ -1,0 +1,20 @@
+-- What the desk does for one request.
+use Rattle.std.specs.Prelude.{◌≡◌, List, ◌++◌, ℕ, Bool}
+use Rattle.lf_histories.specs.declared.operation.Operation.{Operation}
+use Rattle.lf_histories.specs.Legal.{IsLegal}
+use Rattle.lf_desk.specs.Accepted.{is_first_frame}
+use Rattle.lf_desk.specs.Seats.{IsExtended}
+use Rattle.lf_session.specs.declared.request.Asked.{Asked}
+use Rattle.lf_session.specs.Replies.{Reply}
+use Rattle.lf_session.specs.Answers.{IsAnswered}
+
+-- The desk's history went on from one to another, and the request was answered by what stood between.
+pub record IsStep (alone : Bool) (seat need : ℕ) (name body : List ℕ) (asked : Asked) (before after : List Operation) (reply : Reply) : Type 0 where
+  pub seen : List Operation
+  pub later : List Operation
+  pub made : List Operation
+  pub came : IsExtended alone seat before seen
+  pub went : IsExtended alone seat seen later
+  pub follows : after ≡ later ++ made
+  pub legal : IsLegal is_first_frame before → IsLegal is_first_frame after
+  pub answered : IsAnswered seat name body need asked seen later made reply

@@ -1,0 +1,192 @@
+//! Bodies of replies that take no memory, as JSON texts in compact form (RFC 8259).
+ghost use Rattle.std.specs.Prelude.{◌≡◌, ◌+◌, ◌≤◌, ◌++◌, [], length, codes, decimal};
+ghost use Rattle.lf_session.specs.Bodies.{error_body, frame_body, version_body, number_or_null, pending_body, frame_too_long_body, too_many_body, counted_name, history_full_body, limit_name, limit_number, limit_body};
+
+use arrayvec::ArrayVec;
+use itoa::Buffer;
+use lf_model::{Counted, Limit};
+
+/// The bytes of a short body.
+pub type ShortBody = ArrayVec<u8, 320>;
+
+// Appends a text that has room.
+fn put(body: &mut ShortBody, text: &[u8])
+    requires { length body.old.items + length text.now ≤ 320 }
+    ensures items { body.new.items ≡ body.old.items ++ text.now }
+    ensures len { length body.new.items ≡ length body.old.items + length text.now }
+{
+    for byte in text {
+        body.push(*byte);
+    }
+}
+
+// Appends a number in decimal.
+fn put_number(body: &mut ShortBody, number: u64)
+    requires { length body.old.items ≤ 300 }
+    ensures items { body.new.items ≡ body.old.items ++ decimal number }
+    ensures len { length body.new.items ≤ length body.old.items + 20 }
+{
+    put(body, Buffer::new().format(number).as_bytes());
+}
+
+// Begins a body with a text.
+fn begin(text: &[u8]) -> ShortBody
+    requires { length text.now ≤ 320 }
+    ensures { result.items ≡ text.now }
+{
+    let mut body = ShortBody::new();
+    put(&mut body, text);
+    body
+}
+
+/// An error without more.
+#[tactic(auto, unfolding(crate::specs::Bodies::error_body))]
+pub fn error_body(text: &[u8]) -> ShortBody
+    requires { length text.now ≤ 64 }
+    ensures { result.items ≡ error_body text.now }
+{
+    let mut body = begin(b"{\"error\":\"");
+    put(&mut body, text);
+    put(&mut body, b"\"}");
+    body
+}
+
+/// A frame's name.
+#[tactic(auto, unfolding(crate::specs::Bodies::frame_body))]
+pub fn frame_body(name: &[u8]) -> ShortBody
+    requires { length name.now ≤ 64 }
+    ensures { result.items ≡ frame_body name.now }
+{
+    let mut body = begin(b"{\"frame\":\"");
+    put(&mut body, name);
+    put(&mut body, b"\"}");
+    body
+}
+
+/// A version.
+#[tactic(auto, unfolding(crate::specs::Bodies::version_body))]
+pub fn version_body(version: u64) -> ShortBody
+    ensures { result.items ≡ version_body version }
+{
+    let mut body = begin(b"{\"version\":");
+    put_number(&mut body, version);
+    put(&mut body, b"}");
+    body
+}
+
+// Appends a number, or null.
+fn put_number_or_null(body: &mut ShortBody, number: Option<u64>)
+    requires { length body.old.items ≤ 300 }
+    ensures items { body.new.items ≡ body.old.items ++ number_or_null number }
+    ensures len { length body.new.items ≤ length body.old.items + 20 }
+{
+    match number {
+        Some(number) => put_number(body, number),
+        None => put(body, b"null"),
+    }
+}
+
+/// What is published and what is needed.
+#[tactic(auto, unfolding(crate::specs::Bodies::pending_body))]
+pub fn pending_body(have: Option<u64>, need: u64) -> ShortBody
+    ensures { result.items ≡ pending_body have need }
+{
+    let mut body = begin(b"{\"have\":");
+    put_number_or_null(&mut body, have);
+    put(&mut body, b",\"need\":");
+    put_number(&mut body, need);
+    put(&mut body, b"}");
+    body
+}
+
+/// A frame's text is too long.
+#[tactic(auto, unfolding(crate::specs::Bodies::frame_too_long_body))]
+pub fn frame_too_long_body(size: u64) -> ShortBody
+    ensures { result.items ≡ frame_too_long_body size }
+{
+    let mut body = begin(b"{\"error\":\"frame too long\",\"length\":");
+    put_number(&mut body, size);
+    put(&mut body, b"}");
+    body
+}
+
+/// Something would be more than may be.
+#[tactic(auto, unfolding(crate::specs::Bodies::too_many_body))]
+pub fn too_many_body(what: &[u8], have: u64, would: u64) -> ShortBody
+    requires { length what.now ≤ 20 }
+    ensures { result.items ≡ too_many_body what.now have would }
+{
+    let mut body = begin(b"{\"error\":\"too many ");
+    put(&mut body, what);
+    put(&mut body, b"\",\"have\":");
+    put_number(&mut body, have);
+    put(&mut body, b",\"would\":");
+    put_number(&mut body, would);
+    put(&mut body, b"}");
+    body
+}
+
+#[tactic(auto, unfolding(crate::specs::Bodies::counted_name))]
+fn counted_name(of: Counted) -> &'static [u8]
+    ensures name { result.now ≡ counted_name of }
+    ensures short { length result.now ≤ 20 }
+{
+    match of {
+        Counted::Commits => b"commits",
+        Counted::Registrations => b"registrations",
+        Counted::Bytes => b"bytes",
+    }
+}
+
+/// A limit of the history is met.
+#[tactic(auto, unfolding(crate::specs::Bodies::history_full_body))]
+pub fn history_full_body(of: Counted, have: u64, most: u64) -> ShortBody
+    ensures { result.items ≡ history_full_body of have most }
+{
+    let mut body = begin(b"{\"error\":\"history full\",\"have\":");
+    put_number(&mut body, have);
+    put(&mut body, b",\"limit\":");
+    put_number(&mut body, most);
+    put(&mut body, b",\"of\":\"");
+    put(&mut body, counted_name(of));
+    put(&mut body, b"\"}");
+    body
+}
+
+#[tactic(auto, unfolding(crate::specs::Bodies::limit_name))]
+fn limit_name(limit: Limit) -> &'static [u8]
+    ensures name { result.now ≡ limit_name limit }
+    ensures short { length result.now ≤ 20 }
+{
+    match limit {
+        Limit::TreeItems => b"tree items",
+        Limit::Depth => b"depth",
+        Limit::DocumentItems => b"document items",
+        Limit::DocumentBytes => b"document bytes",
+    }
+}
+
+#[tactic(auto, unfolding(crate::specs::Bodies::limit_number))]
+fn limit_number(limit: Limit) -> u64
+    ensures { result ≡ limit_number limit }
+{
+    match limit {
+        Limit::TreeItems => 65_536,
+        Limit::Depth => 256,
+        Limit::DocumentItems => 262_144,
+        Limit::DocumentBytes => 33_554_432,
+    }
+}
+
+/// A document passes a limit.
+#[tactic(auto, unfolding(crate::specs::Bodies::limit_body))]
+pub fn limit_body(limit: Limit) -> ShortBody
+    ensures { result.items ≡ limit_body limit }
+{
+    let mut body = begin(b"{\"error\":\"document limit\",\"limit\":\"");
+    put(&mut body, limit_name(limit));
+    put(&mut body, b"\",\"number\":");
+    put_number(&mut body, limit_number(limit));
+    put(&mut body, b"}");
+    body
+}

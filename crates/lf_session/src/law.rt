@@ -1,0 +1,45 @@
+ghost use Rattle.lf_session.specs.BodyLaws.{BodiesAreJson};
+ghost use Rattle.lf_session.specs.FirstSession.{FirstSession};
+ghost use Rattle.lf_session.specs.Headline.{SessionsHold};
+ghost use Rattle.lf_session.specs.Made.{RepliesTellWhatWasMade};
+ghost use Rattle.lf_session.specs.Told.{StreamsEndAsTold};
+ghost use Rattle.lf_session.specs.Whole.{WholeStreamsAreServed};
+ghost use Rattle.lf_session.specs.WorkedEnds.{WorkedEnds};
+
+/// Each body other than a document is the JSON text of a map, with the members that are told.
+pub fn bodies_are_json()
+    ensures { BodiesAreJson }
+{}
+
+/// The documents that a stream is answered are of one version each, no older than any that its caller had seen, and the
+/// operations of its seat are those that its requests made, in order, each once.
+pub fn sessions_hold()
+    ensures { SessionsHold }
+{}
+
+/// A reply tells whether its request made an operation.
+pub fn replies_tell_what_was_made()
+    ensures { RepliesTellWhatWasMade }
+{}
+
+/// A stream of whole messages is answered to its end, or until it asks to close, unless a read or a write fails or no memory
+/// is found.
+pub fn whole_streams_are_served()
+    ensures { WholeStreamsAreServed }
+{}
+
+/// A stream of whole messages and a tail ends by the tail, or after a message that asks to close, unless a read or a write
+/// fails or no memory is found.
+pub fn streams_end_as_told()
+    ensures { StreamsEndAsTold }
+{}
+
+/// A worked session, byte for byte.
+pub fn first_session()
+    ensures { FirstSession }
+{}
+
+/// Worked ends of streams, byte for byte.
+pub fn worked_ends()
+    ensures { WorkedEnds }
+{}

@@ -1,0 +1,21 @@
+//! Sessions: one stream of requests served over a desk (RFC 9112).
+#![tactic(auto)]
+
+mod answer;
+mod bodies;
+mod ended;
+mod law;
+mod long;
+mod reply;
+mod request;
+mod send;
+mod serve;
+#[cfg(test)]
+mod tests;
+
+pub use ended::Ended;
+pub use law::{
+    bodies_are_json, first_session, replies_tell_what_was_made, sessions_hold, streams_end_as_told,
+    whole_streams_are_served, worked_ends,
+};
+pub use serve::serve_stream;

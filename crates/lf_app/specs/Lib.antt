@@ -1,5 +1,6 @@
 pub mod Words
 pub mod Answers
 pub mod Refusals
-pub mod Printing
 pub mod Said
+pub mod Sessions
+pub mod Statuses

@@ -13,3 +13,8 @@ files_named (command ∷ frame ∷ data_file ∷ []) =
     if pointwise nat_eq command (codes "frame") && not (begins_with_dash frame) && not (begins_with_dash data_file)
     then Some (frame, data_file) else None
 files_named _ = None
+
+-- the words are `session` alone
+abbrev pub is_session : List (List ℕ) → Bool
+is_session (command ∷ []) = pointwise nat_eq command (codes "session")
+is_session _ = false

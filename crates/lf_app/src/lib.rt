@@ -5,6 +5,9 @@ mod answer;
 mod files;
 mod print;
 mod run;
+mod session;
+#[cfg(test)]
+mod session_tests;
 #[cfg(test)]
 mod tests;
 mod words;

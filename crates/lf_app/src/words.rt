@@ -1,6 +1,6 @@
 ghost use Rattle.std.specs.Prelude.{◌≡◌, map, string_bytes};
 ghost use Rattle.std.specs.Option.{option_map};
-ghost use Rattle.lf_app.specs.Words.{begins_with_dash, files_named};
+ghost use Rattle.lf_app.specs.Words.{begins_with_dash, files_named, is_session};
 
 /// The words of a run that frames a file.
 #[derive(Clone, Copy, Debug)]
@@ -34,5 +34,15 @@ pub fn read_words(words: &[String]) -> Option<FrameWords<'_>>
             }
         }
         _ => None,
+    }
+}
+
+/// Whether the words are `session` alone.
+pub fn is_session(words: &[String]) -> bool
+    ensures { result ≡ is_session (map string_bytes words.now) }
+{
+    match words {
+        [command] => command.as_str() == "session",
+        _ => false,
     }
 }

@@ -1,8 +1,6 @@
 use Rattle.std.proofs.Common.{rules, ◌≡◌, [], ◌∷◌, ◌++◌}
-use Rattle.lf_io.specs.Bytes.{appended}
-use Rattle.lf_io.proofs.Told.{appended_twice}
-use Rattle.lf_app.specs.Printing.{AddsPart}
-use Rattle.lf_app.proofs.Printing.{part_of_first, part_of_second}
+use Rattle.lf_io.specs.Bytes.{appended, AddsPart}
+use Rattle.lf_io.proofs.Told.{appended_twice, part_of_first, part_of_second}
 use Rattle.lf_app.proofs.print.print_line.Goals as goal
 
 pub returns-in-Err-write_all-clause-cut_short : goal.returns-in-Err-write_all-clause-cut_short

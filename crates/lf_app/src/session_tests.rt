@@ -1,0 +1,333 @@
+ghost use Rattle.std.specs.Prelude.{◌<◌};
+
+use crate::run_words;
+use lf_base::{ListOf, Memory};
+use lf_io::{Calls, MemoryShelf, MemorySink, MemorySource};
+use std::alloc::Global;
+use std::test::Fail;
+
+const ROOM: usize = 16_384;
+
+// How the source and the sink behave: the length of their pieces, and which of their calls fails.
+#[derive(Clone, Copy)]
+struct Streams {
+    piece: usize,
+    read: u64,
+    write: u64,
+}
+
+const WELL: Streams = Streams {
+    piece: 4096,
+    read: u64::MAX,
+    write: u64::MAX,
+};
+
+const PATCH: &str =
+    "POST /patch HTTP/1.1\r\nHost: x\r\nContent-Length: 32\r\n\r\n<http://e/a> <http://e/p> \"x\" .\n";
+
+const PATCHED: &str =
+    "HTTP/1.1 200 OK\r\nContent-Type: application/json\r\nLd-Version: 1\r\nContent-Length: 13\r\n\r\n{\"version\":1}";
+
+const PUT: &str = "PUT /frames/a HTTP/1.1\r\nHost: x\r\nContent-Length: 2\r\n\r\n{}";
+
+const CREATED: &str =
+    "HTTP/1.1 201 Created\r\nContent-Type: application/json\r\nContent-Length: 13\r\n\r\n{\"frame\":\"a\"}";
+
+const GET: &str = "GET /frames/a HTTP/1.1\r\nHost: x\r\n\r\n";
+
+const PENDING: &str =
+    "HTTP/1.1 202 Accepted\r\nContent-Type: application/json\r\nContent-Length: 22\r\n\r\n{\"have\":null,\"need\":1}";
+
+const GET_NOW: &str = "GET /frames/a HTTP/1.1\r\nHost: x\r\nLd-Refresh: now\r\n\r\n";
+
+const DOCUMENT: &str =
+    "HTTP/1.1 200 OK\r\nContent-Type: application/ld+json\r\nLd-Version: 1\r\nContent-Length: 37\r\n\r\n{\"@id\":\"http://e/a\",\"http://e/p\":\"x\"}";
+
+fn calls(alloc: Global, failing: u64) -> Result<Calls, Memory> {
+    let mut numbers = Vec::new(alloc);
+    numbers.push(failing)?;
+    Ok(Calls::new(numbers))
+}
+
+// The status of a session over this input, and what it sent.
+fn session(alloc: Global, input: &str, streams: &Streams) -> Result<(u8, String), Memory> {
+    let piece = streams.piece.max(1);
+    let mut source = MemorySource::new(
+        input.as_bytes().to_vec(alloc)?,
+        piece,
+        calls(alloc, streams.read)?,
+    );
+    let mut sink = MemorySink::new(alloc, ROOM, piece, calls(alloc, streams.write)?)?;
+    let mut shelf = MemoryShelf::new(ListOf::new(alloc), calls(alloc, u64::MAX)?);
+    let mut words = Vec::new(alloc);
+    words.push(String::from_str(alloc, "session")?)?;
+    let status = run_words(alloc, words.as_slice(), &mut source, &mut sink, &mut shelf);
+    let sent = match String::from_utf8(sink.bytes().to_vec(alloc)?) {
+        Ok(sent) => sent,
+        Err(_) => String::new(alloc),
+    };
+    Ok((status, sent))
+}
+
+// Texts, one after another.
+fn joined(alloc: Global, texts: &[&str]) -> Result<String, Memory> {
+    let mut all = String::new(alloc);
+    for text in texts {
+        all.push_str(text)?;
+    }
+    Ok(all)
+}
+
+#[test]
+fn a_first_session_comes_in_any_pieces(rt: HostRuntime) -> Result<(), Fail> {
+    let alloc = rt.alloc();
+    let input = joined(alloc, &[PATCH, PUT, GET, GET_NOW])?;
+    let wanted = joined(alloc, &[PATCHED, CREATED, PENDING, DOCUMENT])?;
+    for piece in [1usize, 7, 4096] {
+        let streams = Streams { piece, ..WELL };
+        let (status, sent) = session(alloc, input.as_str(), &streams)?;
+        assert_eq!(rt; status, 0);
+        assert_eq!(rt; sent.as_str(), wanted.as_str());
+    }
+    Ok(())
+}
+
+#[test]
+fn bad_heads_end_the_stream(rt: HostRuntime) -> Result<(), Fail> {
+    let alloc = rt.alloc();
+    let rows = [
+        (
+            "GET /version HTTP/1.1\r\n\r\nGET /version HTTP/1.1\r\nHost: x\r\n\r\n",
+            11,
+            "HTTP/1.1 400 Bad Request\r\nContent-Type: application/json\r\nConnection: close\r\nContent-Length: 20\r\n\r\n{\"error\":\"bad head\"}",
+        ),
+        (
+            "PUT /frames/a HTTP/1.1\r\nHost: x\r\n\r\n{}",
+            11,
+            "HTTP/1.1 411 Length Required\r\nContent-Type: application/json\r\nConnection: close\r\nContent-Length: 27\r\n\r\n{\"error\":\"length required\"}",
+        ),
+        (
+            "POST /patch HTTP/1.1\r\nHost: x\r\nContent-Length: 0\r\nExpect: 100-continue\r\n\r\n",
+            11,
+            "HTTP/1.1 417 Expectation Failed\r\nContent-Type: application/json\r\nConnection: close\r\nContent-Length: 23\r\n\r\n{\"error\":\"expectation\"}",
+        ),
+        (
+            "POST /patch HTTP/1.1\r\nHost: x\r\nContent-Length: 67108865\r\n\r\n",
+            11,
+            "HTTP/1.1 413 Content Too Large\r\nContent-Type: application/json\r\nConnection: close\r\nContent-Length: 25\r\n\r\n{\"error\":\"body too long\"}",
+        ),
+        (
+            "PATCH /version HTTP/1.1\r\nHost: x\r\n\r\n",
+            0,
+            "HTTP/1.1 405 Method Not Allowed\r\nContent-Type: application/json\r\nAllow: GET\r\nContent-Length: 30\r\n\r\n{\"error\":\"method not allowed\"}",
+        ),
+    ];
+    for (input, status, wanted) in rows {
+        let (answered, sent) = session(alloc, input, &WELL)?;
+        assert_eq!(rt; answered, status, "at {input}");
+        assert_eq!(rt; sent.as_str(), wanted, "at {input}");
+    }
+    Ok(())
+}
+
+#[test]
+fn requests_are_refused_in_their_order(rt: HostRuntime) -> Result<(), Fail> {
+    let alloc = rt.alloc();
+    let rows = [
+        (
+            "GET /nowhere HTTP/1.1\r\nHost: x\r\nContent-Encoding: gzip\r\n\r\n",
+            "415 Unsupported Media Type\r\nContent-Type: application/json\r\nContent-Length: 28\r\n\r\n{\"error\":\"content encoding\"}",
+        ),
+        (
+            "PATCH /turn HTTP/1.1\r\nHost: x\r\n\r\n",
+            "404 Not Found\r\nContent-Type: application/json\r\nContent-Length: 24\r\n\r\n{\"error\":\"no such path\"}",
+        ),
+        (
+            "HEAD /frames/a HTTP/1.1\r\nHost: x\r\n\r\n",
+            "405 Method Not Allowed\r\nContent-Type: application/json\r\nAllow: GET, PUT, DELETE\r\nContent-Length: 30\r\n\r\n",
+        ),
+        (
+            "GET /version HTTP/1.1\r\nHost: x\r\nLd-Seen: one\r\nLd-Refresh: later\r\n\r\n",
+            "400 Bad Request\r\nContent-Type: application/json\r\nContent-Length: 23\r\n\r\n{\"error\":\"bad Ld-Seen\"}",
+        ),
+        (
+            "GET /version HTTP/1.1\r\nHost: x\r\nLd-Refresh: later\r\n\r\n",
+            "400 Bad Request\r\nContent-Type: application/json\r\nContent-Length: 26\r\n\r\n{\"error\":\"bad Ld-Refresh\"}",
+        ),
+        (
+            "GET /version HTTP/1.1\r\nHost: x\r\n\r\n",
+            "200 OK\r\nContent-Type: application/json\r\nLd-Version: 0\r\nContent-Length: 13\r\n\r\n{\"version\":0}",
+        ),
+        (
+            "DELETE /frames/a HTTP/1.1\r\nHost: x\r\n\r\n",
+            "404 Not Found\r\nContent-Type: application/json\r\nContent-Length: 25\r\n\r\n{\"error\":\"unknown frame\"}",
+        ),
+        (
+            "GET /frames/a HTTP/1.1\r\nHost: x\r\n\r\n",
+            "404 Not Found\r\nContent-Type: application/json\r\nContent-Length: 25\r\n\r\n{\"error\":\"unknown frame\"}",
+        ),
+        (
+            "PUT /frames/a.b HTTP/1.1\r\nHost: x\r\nContent-Length: 2\r\n\r\n{}",
+            "400 Bad Request\r\nContent-Type: application/json\r\nContent-Length: 20\r\n\r\n{\"error\":\"bad name\"}",
+        ),
+        (
+            "PUT /frames/a HTTP/1.1\r\nHost: x\r\nContent-Length: 3\r\n\r\n{ }",
+            "501 Not Implemented\r\nContent-Type: application/json\r\nContent-Length: 21\r\n\r\n{\"error\":\"not built\"}",
+        ),
+        (
+            "POST /patch HTTP/1.1\r\nHost: x\r\nContent-Length: 1\r\n\r\nx",
+            "501 Not Implemented\r\nContent-Type: application/json\r\nContent-Length: 21\r\n\r\n{\"error\":\"not built\"}",
+        ),
+    ];
+    for (input, wanted) in rows {
+        let (status, sent) = session(alloc, input, &WELL)?;
+        let whole = joined(alloc, &["HTTP/1.1 ", wanted])?;
+        assert_eq!(rt; status, 0, "at {input}");
+        assert_eq!(rt; sent.as_str(), whole.as_str(), "at {input}");
+    }
+    Ok(())
+}
+
+#[test]
+fn a_body_that_is_longer_than_told_is_a_bad_head(rt: HostRuntime) -> Result<(), Fail> {
+    let alloc = rt.alloc();
+    let input = joined(alloc, &[PUT, "{}\r\n\r\n"])?;
+    let (status, sent) = session(alloc, input.as_str(), &WELL)?;
+    assert_eq!(rt; status, 11);
+    assert!(rt; sent.starts_with(CREATED));
+    assert!(rt; sent.ends_with("{\"error\":\"bad head\"}"));
+    Ok(())
+}
+
+#[test]
+fn a_seventeenth_frame_is_one_too_many(rt: HostRuntime) -> Result<(), Fail> {
+    let alloc = rt.alloc();
+    let mut input = String::new(alloc);
+    for name in [
+        "a", "b", "c", "d", "e", "f", "g", "h", "i", "j", "k", "l", "m", "n", "o", "p", "q", "a",
+    ] {
+        input.push_str("PUT /frames/")?;
+        input.push_str(name)?;
+        input.push_str(" HTTP/1.1\r\nHost: x\r\nContent-Length: 2\r\n\r\n{}")?;
+    }
+    input.push_str("DELETE /frames/a HTTP/1.1\r\nHost: x\r\n\r\n")?;
+    let (status, sent) = session(alloc, input.as_str(), &WELL)?;
+    assert_eq!(rt; status, 0);
+    let head =
+        "HTTP/1.1 200 OK\r\nContent-Type: application/json\r\nContent-Length: 13\r\n\r\n{\"frame\":\"a\"}";
+    let refused =
+        "HTTP/1.1 413 Content Too Large\r\nContent-Type: application/json\r\nContent-Length: 48\r\n\r\n{\"error\":\"too many frames\",\"have\":16,\"would\":17}";
+    let last = joined(alloc, &[refused, head, head])?;
+    assert!(rt; sent.ends_with(last.as_str()));
+    Ok(())
+}
+
+#[test]
+fn each_number_told_is_needed(rt: HostRuntime) -> Result<(), Fail> {
+    let alloc = rt.alloc();
+    let refused = "GET /nowhere HTTP/1.1\r\nHost: x\r\nLd-Seen: 7\r\n\r\n";
+    let input = joined(alloc, &[PUT, refused, GET_NOW])?;
+    let (status, sent) = session(alloc, input.as_str(), &WELL)?;
+    assert_eq!(rt; status, 0);
+    assert!(rt; sent.ends_with("{\"have\":null,\"need\":7}"));
+    Ok(())
+}
+
+#[test]
+fn a_request_that_asks_to_close_is_the_last(rt: HostRuntime) -> Result<(), Fail> {
+    let alloc = rt.alloc();
+    let version = "{\"version\":0}";
+    for (input, wanted) in [
+        (
+            "GET /version HTTP/1.1\r\nHost: x\r\nConnection: x, Close\r\n\r\nGET /version HTTP/1.1\r\nHost: x\r\n\r\n",
+            "HTTP/1.1 200 OK\r\nContent-Type: application/json\r\nLd-Version: 0\r\nConnection: close\r\nContent-Length: 13\r\n\r\n",
+        ),
+        (
+            "GET /version HTTP/1.0\r\n\r\nGET /version HTTP/1.1\r\nHost: x\r\n\r\n",
+            "HTTP/1.1 200 OK\r\nContent-Type: application/json\r\nLd-Version: 0\r\nConnection: close\r\nContent-Length: 13\r\n\r\n",
+        ),
+    ] {
+        let (status, sent) = session(alloc, input, &WELL)?;
+        let whole = joined(alloc, &[wanted, version])?;
+        assert_eq!(rt; status, 0);
+        assert_eq!(rt; sent.as_str(), whole.as_str());
+    }
+    Ok(())
+}
+
+// How much of the replies is sent where so many bytes of the first session came.
+fn replies_to(alloc: Global, bytes: usize) -> Result<(bool, String), Memory> {
+    let mut sent = String::new(alloc);
+    let mut end = 0;
+    let mut whole = bytes == 0;
+    for (message, reply) in [
+        (PATCH, PATCHED),
+        (PUT, CREATED),
+        (GET, PENDING),
+        (GET_NOW, DOCUMENT),
+    ] {
+        end = message.len().saturating_add(end);
+        if end <= bytes {
+            sent.push_str(reply)?;
+        }
+        if end == bytes {
+            whole = true;
+        }
+    }
+    Ok((whole, sent))
+}
+
+#[test]
+fn a_stream_that_is_cut_is_answered_as_far_as_it_came(rt: HostRuntime) -> Result<(), Fail> {
+    let alloc = rt.alloc();
+    let input = joined(alloc, &[PATCH, PUT, GET, GET_NOW])?;
+    for bytes in 0..input.len() {
+        let Some(cut) = input.get(..bytes) else {
+            continue;
+        };
+        let (whole, wanted) = replies_to(alloc, bytes)?;
+        let (status, sent) = session(alloc, cut, &WELL)?;
+        assert_eq!(rt; status, if whole { 0 } else { 10 });
+        assert_eq!(rt; sent.as_str(), wanted.as_str());
+    }
+    Ok(())
+}
+
+#[test]
+fn a_failed_read_ends_the_stream(rt: HostRuntime) -> Result<(), Fail> {
+    let alloc = rt.alloc();
+    let input = joined(alloc, &[PATCH, PUT, GET, GET_NOW])?;
+    for call in 0..300u64 {
+        let streams = Streams {
+            piece: 1,
+            read: call,
+            write: u64::MAX,
+        };
+        let (_, wanted) = replies_to(alloc, call as usize)?;
+        let (status, sent) = session(alloc, input.as_str(), &streams)?;
+        let failed = call <= input.len() as u64;
+        assert_eq!(rt; status, if failed { 3 } else { 0 });
+        assert_eq!(rt; sent.as_str(), wanted.as_str());
+    }
+    Ok(())
+}
+
+#[test]
+fn a_failed_write_ends_the_stream(rt: HostRuntime) -> Result<(), Fail> {
+    let alloc = rt.alloc();
+    let input = joined(alloc, &[PATCH, PUT, GET, GET_NOW])?;
+    let all = joined(alloc, &[PATCHED, CREATED, PENDING, DOCUMENT])?;
+    for call in 0..700u64 {
+        let streams = Streams {
+            piece: 1,
+            read: u64::MAX,
+            write: call,
+        };
+        let (status, sent) = session(alloc, input.as_str(), &streams)?;
+        let failed = call < all.len() as u64;
+        assert_eq!(rt; status, if failed { 4 } else { 0 });
+        assert_eq!(rt; sent.len() as u64, call.min(all.len() as u64));
+        assert!(rt; all.starts_with(sent.as_str()));
+    }
+    Ok(())
+}

@@ -10,7 +10,7 @@ use Rattle.lf_model.specs.declared.document.Limit.TheVariants.{DocumentItems, Do
 use Rattle.lf_model.specs.declared.document.Doc.TheVariants as doc
 use Rattle.lf_model.specs.JsonData.{JsonValue}
 use Rattle.lf_model.specs.TreeData.{TreeNode}
-use Rattle.lf_documents.specs.Items.{tree_items}
+use Rattle.lf_framing.specs.Items.{node_items}
 use Rattle.lf_documents.specs.JsonPrint.{json_text}
 use Rattle.lf_framing.specs.Outcome.{Outcome, not_key, no_match, matched, past}
 use Rattle.lf_documents.specs.Document.{Gathered, trees, limited, with_tree, gathered, gathered_doc, compact_all, document, document_json, printed_doc, pruned, within_bytes, most_items, most_bytes}
@@ -53,37 +53,37 @@ text-within table context outcomes text e = go (gathered 0 outcomes) e
     go (trees all) e' = printed-short table context (compact_all table (pruned all)) text e'
 
 -- the sum from a number on
-fold-from : (n : ℕ) (all : List TreeNode) → fold (λ a t. a + tree_items t) n all ≡ n + sum_by tree_items all
+fold-from : (n : ℕ) (all : List TreeNode) → fold (λ a t. a + node_items t) n all ≡ n + sum_by node_items all
 fold-from n [] = omega arith
 fold-from n (first ∷ rest) =
-    let one = fold-from (n + tree_items first) rest in
-    let other = fold-from (0 + tree_items first) rest in
+    let one = fold-from (n + node_items first) rest in
+    let other = fold-from (0 + node_items first) rest in
     omega arith
 
 -- what the trees of some outcomes add to the items before
-pub items-within : (items : ℕ) (outcomes : List Outcome) (all : List TreeNode) → items ≤ most_items → gathered items outcomes ≡ trees all → items + sum_by tree_items all ≤ most_items
-items-within items [] all below e = let same : all ≡ [] = cc in subst (λ ts. items + sum_by tree_items ts ≤ most_items) (sym same) (omega arith)
+pub items-within : (items : ℕ) (outcomes : List Outcome) (all : List TreeNode) → items ≤ most_items → gathered items outcomes ≡ trees all → items + sum_by node_items all ≤ most_items
+items-within items [] all below e = let same : all ≡ [] = cc in subst (λ ts. items + sum_by node_items ts ≤ most_items) (sym same) (omega arith)
 items-within items (not_key ∷ rest) all below e = items-within items rest all below e
 items-within items (no_match ∷ rest) all below e = items-within items rest all below e
 items-within items (past limit ∷ rest) all below e = cc
-items-within items (matched found ∷ rest) all below e = go (nat_lt most_items (items + tree_items found)) refl e (λ within others at. items-within (items + tree_items found) rest others within at)
+items-within items (matched found ∷ rest) all below e = go (nat_lt most_items (items + node_items found)) refl e (λ within others at. items-within (items + node_items found) rest others within at)
   where
-    more : (g : Gathered) → gathered (items + tree_items found) rest ≡ g → with_tree found g ≡ trees all
-        → ((others : List TreeNode) → gathered (items + tree_items found) rest ≡ trees others → items + tree_items found + sum_by tree_items others ≤ most_items)
-        → items + sum_by tree_items all ≤ most_items
+    more : (g : Gathered) → gathered (items + node_items found) rest ≡ g → with_tree found g ≡ trees all
+        → ((others : List TreeNode) → gathered (items + node_items found) rest ≡ trees others → items + node_items found + sum_by node_items others ≤ most_items)
+        → items + sum_by node_items all ≤ most_items
     more (limited limit) at e' ih = cc
     more (trees others) at e' ih =
         let same : found ∷ others ≡ all = cc in
-        let sums = fold-from (0 + tree_items found) others in
+        let sums = fold-from (0 + node_items found) others in
         let held = ih others at in
-        subst (λ ts. items + sum_by tree_items ts ≤ most_items) same (omega arith)
+        subst (λ ts. items + sum_by node_items ts ≤ most_items) same (omega arith)
 
-    go : (b : Bool) → nat_lt most_items (items + tree_items found) ≡ b
-        → cond b (limited DocumentItems) (with_tree found (gathered (items + tree_items found) rest)) ≡ trees all
-        → (items + tree_items found ≤ most_items → (others : List TreeNode) → gathered (items + tree_items found) rest ≡ trees others → items + tree_items found + sum_by tree_items others ≤ most_items)
-        → items + sum_by tree_items all ≤ most_items
+    go : (b : Bool) → nat_lt most_items (items + node_items found) ≡ b
+        → cond b (limited DocumentItems) (with_tree found (gathered (items + node_items found) rest)) ≡ trees all
+        → (items + node_items found ≤ most_items → (others : List TreeNode) → gathered (items + node_items found) rest ≡ trees others → items + node_items found + sum_by node_items others ≤ most_items)
+        → items + sum_by node_items all ≤ most_items
     go true at e' ih = cc
-    go false at e' ih = more (gathered (items + tree_items found) rest) refl e' (ih (ltb-false most_items (items + tree_items found) at))
+    go false at e' ih = more (gathered (items + node_items found) rest) refl e' (ih (ltb-false most_items (items + node_items found) at))
 
 -- a limit after outcomes that have none
 pub limit-decides : (items : ℕ) (before after : List Outcome) (all : List TreeNode) (limit : Limit) → gathered items before ≡ trees all → gathered items (before ++ past limit ∷ after) ≡ limited limit
@@ -91,19 +91,19 @@ limit-decides items [] after all limit e = refl
 limit-decides items (not_key ∷ rest) after all limit e = limit-decides items rest after all limit e
 limit-decides items (no_match ∷ rest) after all limit e = limit-decides items rest after all limit e
 limit-decides items (past other ∷ rest) after all limit e = cc
-limit-decides items (matched found ∷ rest) after all limit e = go (nat_lt most_items (items + tree_items found)) e (λ others at. limit-decides (items + tree_items found) rest after others limit at)
+limit-decides items (matched found ∷ rest) after all limit e = go (nat_lt most_items (items + node_items found)) e (λ others at. limit-decides (items + node_items found) rest after others limit at)
   where
-    more : (g : Gathered) → gathered (items + tree_items found) rest ≡ g → with_tree found g ≡ trees all
-        → ((others : List TreeNode) → gathered (items + tree_items found) rest ≡ trees others → gathered (items + tree_items found) (rest ++ past limit ∷ after) ≡ limited limit)
-        → with_tree found (gathered (items + tree_items found) (rest ++ past limit ∷ after)) ≡ limited limit
+    more : (g : Gathered) → gathered (items + node_items found) rest ≡ g → with_tree found g ≡ trees all
+        → ((others : List TreeNode) → gathered (items + node_items found) rest ≡ trees others → gathered (items + node_items found) (rest ++ past limit ∷ after) ≡ limited limit)
+        → with_tree found (gathered (items + node_items found) (rest ++ past limit ∷ after)) ≡ limited limit
     more (limited other) at e' ih = cc
     more (trees others) at e' ih = ap (with_tree found) (ih others at)
 
-    go : (b : Bool) → cond b (limited DocumentItems) (with_tree found (gathered (items + tree_items found) rest)) ≡ trees all
-        → ((others : List TreeNode) → gathered (items + tree_items found) rest ≡ trees others → gathered (items + tree_items found) (rest ++ past limit ∷ after) ≡ limited limit)
-        → cond b (limited DocumentItems) (with_tree found (gathered (items + tree_items found) (rest ++ past limit ∷ after))) ≡ limited limit
+    go : (b : Bool) → cond b (limited DocumentItems) (with_tree found (gathered (items + node_items found) rest)) ≡ trees all
+        → ((others : List TreeNode) → gathered (items + node_items found) rest ≡ trees others → gathered (items + node_items found) (rest ++ past limit ∷ after) ≡ limited limit)
+        → cond b (limited DocumentItems) (with_tree found (gathered (items + node_items found) (rest ++ past limit ∷ after))) ≡ limited limit
     go true e' ih = cc
-    go false e' ih = more (gathered (items + tree_items found) rest) refl e' ih
+    go false e' ih = more (gathered (items + node_items found) rest) refl e' ih
 
-pub items-limit : (outcomes : List Outcome) (all : List TreeNode) → gathered 0 outcomes ≡ trees all → sum_by tree_items all ≤ most_items
+pub items-limit : (outcomes : List Outcome) (all : List TreeNode) → gathered 0 outcomes ≡ trees all → sum_by node_items all ≤ most_items
 items-limit outcomes all e = let h = items-within 0 outcomes all (omega arith) e in omega arith

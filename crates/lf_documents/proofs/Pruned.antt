@@ -6,7 +6,7 @@ use Rattle.lf_rdf.specs.declared.term.Term.{Term}
 use Rattle.lf_rdf.specs.declared.term.Term.TheVariants.{Iri, Blank, Literal}
 use Rattle.lf_rdf.specs.Equality.{text_eq}
 use Rattle.lf_model.specs.TreeData.{TreeNode, tree, TreeNodes, no_nodes, node, TreeProperties, no_properties, property, TreeReverses, no_reverses, reverse, TreeEntry, node_entry, literal_entry, list_entry, fallback_entry, empty_fallback, TreeEntries, no_entries, entry}
-use Rattle.lf_documents.specs.Items.{tree_items, nodes_items, properties_items, reverses_items, entry_items, entries_items}
+use Rattle.lf_framing.specs.Items.{node_items, nodes_items, properties_items, reverses_items, entry_items, entries_items}
 use Rattle.lf_documents.specs.Pruning.{count_node, count_nodes, count_properties, count_reverses, count_entry, count_entries, count_types, count_id, count_term, label_count, prune_id, prune_node, prune_nodes, prune_properties, prune_reverses, prune_entry, prune_entries}
 
 pub counts-append : (some others : List TreeNode) (label : List ℕ) → label_count (some ++ others) label ≡ label_count some label + label_count others label
@@ -101,9 +101,11 @@ module _ (counts : List ℕ → ℕ) (never : (label : List ℕ) → counts labe
 
 module _ (counts : List ℕ → ℕ) where
   mutual
-    pub items-kept : (n : TreeNode) → tree_items (prune_node counts n) ≡ tree_items n
+    unfolding node_items
+
+    pub items-kept : (n : TreeNode) → node_items (prune_node counts n) ≡ node_items n
     items-kept (tree id types graph properties reverses) =
-        λ i. 1 + nodes_items-kept graph i + properties_items-kept properties i + reverses_items-kept reverses i
+        λ i. 1 + (nodes_items-kept graph i + (properties_items-kept properties i + reverses_items-kept reverses i))
 
     nodes_items-kept : (ns : TreeNodes) → nodes_items (prune_nodes counts ns) ≡ nodes_items ns
     nodes_items-kept no_nodes = refl

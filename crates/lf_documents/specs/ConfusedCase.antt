@@ -1,5 +1,6 @@
 -- Worked case: an IRI whose scheme is a prefix of the context.
 use Rattle.std.specs.Prelude.{◌≡◌, refl, [], ◌∷◌, None, codes}
+use Rattle.lf_framing.specs.Items.{node_items}
 use Rattle.lf_rdf.specs.Vocabulary.{xsd_string}
 use Rattle.lf_model.specs.declared.table.TermTable.{TermTable}
 use Rattle.lf_model.specs.declared.error.LdError.TheVariants.{IriConfusedWithPrefix}
@@ -26,11 +27,11 @@ abbrev after : TreeNode
 after = node_of (codes "http://e/a") (one (codes "http://e/n") (plain (codes "A")) ∷ [])
 
 pub confused_document : document tagging context (matched before ∷ []) ≡ Refused IriConfusedWithPrefix
-unfolding xsd_string selection_open most_items most_bytes
+unfolding xsd_string selection_open most_items most_bytes node_items
 confused_document = refl
 
 pub cleared_document :
     document tagging context (matched after ∷ [])
     ≡ Bytes (codes "{\"@context\":{\"tag\":\"http://t/\"},\"@id\":\"http://e/a\",\"http://e/n\":\"A\"}")
-unfolding xsd_string selection_open most_items most_bytes
+unfolding xsd_string selection_open most_items most_bytes node_items
 cleared_document = refl

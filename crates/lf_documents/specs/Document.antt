@@ -16,7 +16,7 @@ use Rattle.lf_documents.specs.Trying.{◌>>=◌}
 use Rattle.lf_documents.specs.Grouping.{object_of}
 use Rattle.lf_documents.specs.Nodes.{compact}
 use Rattle.lf_documents.specs.Pruning.{label_count, prune_node}
-use Rattle.lf_documents.specs.Items.{tree_items}
+use Rattle.lf_framing.specs.Items.{node_items}
 use Rattle.lf_documents.specs.PrintedContext.{context_entry}
 use Rattle.lf_documents.specs.JsonPrint.{json_text}
 
@@ -43,8 +43,8 @@ gathered items (not_key ∷ rest) = gathered items rest
 gathered items (no_match ∷ rest) = gathered items rest
 gathered items (past limit ∷ rest) = limited limit
 gathered items (matched found ∷ rest) =
-    if nat_lt most_items (items + tree_items found) then limited DocumentItems
-    else with_tree found (gathered (items + tree_items found) rest)
+    if nat_lt most_items (items + node_items found) then limited DocumentItems
+    else with_tree found (gathered (items + node_items found) rest)
 
 -- the trees without the blank ids that are counted once over all of them
 abbrev pub pruned : List TreeNode → List TreeNode

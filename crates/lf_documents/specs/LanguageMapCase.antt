@@ -1,5 +1,6 @@
 -- Worked case: a language map.
 use Rattle.std.specs.Prelude.{◌≡◌, refl, [], ◌∷◌, None, codes}
+use Rattle.lf_framing.specs.Items.{node_items}
 use Rattle.lf_rdf.specs.Vocabulary.{rdf_lang_string, xsd_string}
 use Rattle.lf_model.specs.declared.table.TermTable.{TermTable}
 use Rattle.lf_model.specs.declared.table.Container.TheVariants as container
@@ -25,12 +26,12 @@ by_language_set = table_of None (held_term (codes "label") (codes "http://e/labe
 pub language_map_document :
     document by_language (held_context (codes "label") (codes "http://e/label") (codes "@language")) (matched labelled ∷ [])
     ≡ Bytes (codes "{\"@context\":{\"label\":{\"@container\":\"@language\",\"@id\":\"http://e/label\"}},\"@id\":\"http://e/a\",\"label\":{\"@none\":\"z\",\"en\":\"x\",\"en-gb\":\"y\"}}")
-unfolding rdf_lang_string xsd_string selection_open most_items most_bytes
+unfolding rdf_lang_string xsd_string selection_open most_items most_bytes node_items
 language_map_document = refl
 
 -- with `@set` each text stands in an array
 pub language_set_document :
     document by_language_set (held_context (codes "label") (codes "http://e/label") (codes "@language")) (matched labelled ∷ [])
     ≡ Bytes (codes "{\"@context\":{\"label\":{\"@container\":\"@language\",\"@id\":\"http://e/label\"}},\"@id\":\"http://e/a\",\"label\":{\"@none\":[\"z\"],\"en\":[\"x\"],\"en-gb\":[\"y\"]}}")
-unfolding rdf_lang_string xsd_string selection_open most_items most_bytes
+unfolding rdf_lang_string xsd_string selection_open most_items most_bytes node_items
 language_set_document = refl

@@ -12,7 +12,7 @@ use Rattle.lf_model.specs.JsonData.{JsonValue}
 use Rattle.lf_model.specs.TreeData.{TreeNode}
 use Rattle.lf_documents.specs.Pruning.{count_node, label_count, prune_node}
 use Rattle.lf_documents.specs.Ids.{node_has_id}
-use Rattle.lf_documents.specs.Items.{tree_items}
+use Rattle.lf_framing.specs.Items.{node_items}
 use Rattle.lf_documents.specs.Grouping.{keys_of}
 use Rattle.lf_framing.specs.Outcome.{Outcome, past}
 use Rattle.lf_documents.specs.Document.{trees, limited, gathered, document, most_items, most_bytes}
@@ -42,7 +42,7 @@ PruningMayBeIdle =
 
 -- a pruned tree has as many items
 abbrev pub PruningKeepsItems : Type 0
-PruningKeepsItems = (counts : List ℕ → ℕ) (node : TreeNode) → tree_items (prune_node counts node) ≡ tree_items node
+PruningKeepsItems = (counts : List ℕ → ℕ) (node : TreeNode) → node_items (prune_node counts node) ≡ node_items node
 
 -- a document is refused only with this error
 abbrev pub RefusedAsConfused : Type 0
@@ -59,7 +59,7 @@ TextWithinLimit =
 -- the trees of a document have no more items than the limit
 abbrev pub ItemsWithinLimit : Type 0
 ItemsWithinLimit =
-    (outcomes : List Outcome) (all : List TreeNode) → gathered 0 outcomes ≡ trees all → sum_by tree_items all ≤ most_items
+    (outcomes : List Outcome) (all : List TreeNode) → gathered 0 outcomes ≡ trees all → sum_by node_items all ≤ most_items
 
 -- an outcome that is a limit decides, whatever follows, where the outcomes before it have no limit
 abbrev pub FirstLimitDecides : Type 0

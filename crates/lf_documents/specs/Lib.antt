@@ -5,7 +5,6 @@ pub mod Values
 pub mod Entries
 pub mod Nodes
 pub mod Pruning
-pub mod Items
 pub mod Ids
 pub mod PrintedContext
 pub mod JsonPrint

@@ -1,5 +1,6 @@
 -- Worked case: a library that contains a book.
 use Rattle.std.specs.Prelude.{◌≡◌, refl, [], ◌∷◌, Some, codes, option_map}
+use Rattle.lf_framing.specs.Items.{node_items}
 use Rattle.lf_rdf.specs.declared.term.Term.TheVariants.{Iri}
 use Rattle.lf_model.specs.declared.document.Doc.TheVariants.{Bytes}
 use Rattle.lf_model.specs.JsonData.{JsonValue, fraction, text, object, members_of}
@@ -45,5 +46,5 @@ book_compacts = refl
 pub library_document :
     document library context (no_match ∷ matched shelf ∷ not_key ∷ [])
     ≡ Bytes (codes "{\"@context\":{\"@vocab\":\"http://l/\",\"contains\":{\"@container\":\"@set\",\"@type\":\"@id\"},\"creator\":{\"@id\":\"dc:creator\",\"@type\":\"@id\"},\"dc\":\"http://purl.org/dc/terms/\"},\"@id\":\"http://l/lib\",\"@type\":\"Library\",\"contains\":[{\"@id\":\"http://l/b1\",\"@type\":\"Book\",\"creator\":\"http://l/plato\",\"dc:title\":{\"@language\":\"en\",\"@value\":\"Republic\"}}]}")
-unfolding selection_open most_items most_bytes
+unfolding selection_open most_items most_bytes node_items
 library_document = refl

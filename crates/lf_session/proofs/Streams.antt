@@ -6,7 +6,9 @@ use Rattle.lf_histories.specs.declared.operation.Operation.{Operation}
 use Rattle.lf_session.specs.declared.ended.Ended.{Ended}
 use Rattle.lf_session.specs.declared.ended.Ended.TheVariants as ended
 use Rattle.lf_session.specs.Exchanges.{Exchange, IsExchange, IsChain, message_of, answer_of, history_of, messages, answers, last_history, last_need, need_of}
-use Rattle.lf_session.specs.Session.{no_buffers, IsLast}
+use Rattle.lf_session.specs.Session.{IsSession, no_buffers, IsLast}
+use Rattle.lf_desk.specs.Seats.{own}
+use Rattle.lf_session.proofs.OwnProofs.{own-session}
 use Rattle.lf_session.specs.Served.{IsServed, GoesOn, Ends}
 
 -- what was read, sent and made so far, by requests that were answered
@@ -103,19 +105,24 @@ at_end alone seat need before now after left0 left1 left2 held0 held1 held2 pend
       last = g.last;
       reads = read_more left0 left1 left2 pending (messages u.xs) g.rest u.reads g.reads;
       writes = written_more held0 held1 held2 (answers u.xs) g.sent u.writes g.writes;
-      session = record {
-        rest = g.rest;
-        sent = g.sent;
-        chain = u.chain;
-        read = refl;
-        wrote = refl;
-        stands =
-            subst (λ (w : List Operation). IsLast alone seat (last_need 0 u.xs) w g.rest left2 g.last after) u.follows
-            (subst (λ (n : ℕ). IsLast alone seat n now g.rest left2 g.last after) u.needs g.stands);
-        ends = g.ends;
-        unread = λ none. absurd (g.read_some none);
-      };
+      session = session;
+      once = own-session alone seat _ _ left2 before after end u.xs g.last session;
     }
+  where
+    session : IsSession alone seat (messages u.xs ++ g.rest) left2 before after (answers u.xs ++ g.sent) end u.xs g.last
+    session =
+        record {
+          rest = g.rest;
+          sent = g.sent;
+          chain = u.chain;
+          read = refl;
+          wrote = refl;
+          stands =
+              subst (λ (w : List Operation). IsLast alone seat (last_need 0 u.xs) w g.rest left2 g.last after) u.follows
+              (subst (λ (n : ℕ). IsLast alone seat n now g.rest left2 g.last after) u.needs g.stands);
+          ends = g.ends;
+          unread = λ none. absurd (g.read_some none);
+        }
 
 -- no buffers were had
 pub not_begun : (alone : Bool) (seat : ℕ) (before : List Operation) (left held : Option (List ℕ))
@@ -138,4 +145,5 @@ not_begun alone seat before left held =
         ends = inr (refl, refl);
         unread = λ none. refl;
       };
+      once = sym (append-nil (own seat before));
     }

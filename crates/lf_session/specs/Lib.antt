@@ -7,8 +7,8 @@ pub mod Steps
 pub mod Shown
 pub mod Exchanges
 pub mod Session
-pub mod Served
 pub mod Headline
+pub mod Served
 pub mod Made
 pub mod Whole
 pub mod Told

@@ -10,7 +10,9 @@ use Rattle.lf_session.specs.declared.ended.Ended.TheVariants as ended
 use Rattle.lf_session.specs.Replies.{Reply, reply_bytes, refusal}
 use Rattle.lf_session.specs.Requests.{asked_by}
 use Rattle.lf_session.specs.Steps.{IsStep}
-use Rattle.lf_session.specs.Exchanges.{Exchange, IsExchange, message_of, answer_of, history_of, need_of, needed, told as told_by}
+use Rattle.lf_session.specs.Exchanges.{Exchange, IsExchange, message_of, answer_of, history_of, need_of, needed, all_made, told as told_by}
+use Rattle.lf_desk.specs.Seats.{own}
+use Rattle.lf_session.specs.Headline.{answered}
 use Rattle.lf_session.specs.Session.{Last, refused, cut, faulted, no_buffers, IsLast, EndsBy, IsSession, reads_failed, writes_failed}
 
 -- The source had so much left before and after, the sink held so much before and after.
@@ -28,7 +30,7 @@ Reads told bytes = told.left_before ≡ prepended bytes told.left_after
 abbrev pub Writes : Told → List ℕ → Type 0
 Writes told bytes = told.held_after ≡ appended told.held_before bytes
 
--- A whole stream was served, from a history to another.
+-- A whole stream was served, from a history to another. The seat's own operations are those before and what its requests made.
 pub record IsServed (alone : Bool) (seat : ℕ) (before after : List Operation) (told : Told) (ended : Ended) : Type 0 where
   pub bytes : List ℕ
   pub written : List ℕ
@@ -37,6 +39,7 @@ pub record IsServed (alone : Bool) (seat : ℕ) (before after : List Operation) 
   pub reads : Reads told bytes
   pub writes : Writes told written
   pub session : IsSession alone seat bytes told.left_after before after written ended xs last
+  pub once : own seat after ≡ own seat before ++ all_made (answered xs last)
 
 -- A request was answered, and the stream goes on. Bytes that were pending stood before those of the source.
 pub record GoesOn (alone : Bool) (seat need need_after : ℕ) (before after : List Operation) (told : Told) (pending pending_after : List ℕ) : Type 0 where

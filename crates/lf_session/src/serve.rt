@@ -159,7 +159,8 @@ pub fn serve_stream<D: Desk, S: Source, K: Sink>(
     input: &mut S,
     output: &mut K,
 ) -> Ended
-    // What was read and sent is a session over the desk's history.
+    // What was read and sent is a session over the desk's history. The seat's own operations in it are those before and what
+    // the requests made, in order.
     ensures served { IsServed (D.alone desk.old) (D.seat desk.old) (D.history desk.old) (D.history desk.new)
         (record { left_before = S.left input.old; left_after = S.left input.new; held_before = K.held output.old; held_after = K.held output.new })
         result }

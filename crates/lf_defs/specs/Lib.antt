@@ -1,29 +1,57 @@
+-- The main definitions, by subject. Those of compaction that share a name with others are `CompactedValues` and `PropertyEntries`.
+
+-- terms, ids and canonical lines
 pub use Rattle.lf_rdf.specs.Vocabulary
 pub use Rattle.lf_rdf.specs.Equality
 pub use Rattle.lf_rdf.specs.Canonical
+-- maps, JSON values, values of properties and trees as data, and the names of errors
+pub use Rattle.lf_sorted.specs.Entries
+pub use Rattle.lf_model.specs.JsonData
+pub use Rattle.lf_model.specs.JsonBridge
+pub use Rattle.lf_model.specs.ValueData
+pub use Rattle.lf_model.specs.ValueBridge
+pub use Rattle.lf_model.specs.TreeData
+pub use Rattle.lf_model.specs.TreeBridge
+pub use Rattle.lf_model.specs.ErrorName
+-- patch texts
 pub use Rattle.lf_grammar.specs.PatchText
 pub use Rattle.lf_grammar.specs.BadLine
+-- datasets, questions, list cells and views
 pub use Rattle.lf_datasets.specs.Dataset
+pub use Rattle.lf_datasets.specs.Terms
 pub use Rattle.lf_datasets.specs.Questions
 pub use Rattle.lf_datasets.specs.Near
 pub use Rattle.lf_datasets.specs.Cells
+pub use Rattle.lf_datasets.specs.Values
 pub use Rattle.lf_datasets.specs.Views
+-- what is learnt by asking
+pub use Rattle.lf_oracle.specs.Asking
+pub use Rattle.lf_oracle.specs.Nearby
+pub use Rattle.lf_oracle.specs.NodeViews
+-- contexts and frames
 pub use Rattle.lf_contexts.specs.Table
 pub use Rattle.lf_contexts.specs.Expansion
 pub use Rattle.lf_contexts.specs.Frames
 pub use Rattle.lf_nested.specs.Nested
 pub use Rattle.lf_nested.specs.Unfolding
+-- matching and embedding
+pub use Rattle.lf_framing.specs.ValuePatterns
 pub use Rattle.lf_framing.specs.Matching
+pub use Rattle.lf_framing.specs.Parts
 pub use Rattle.lf_framing.specs.Embedding
 pub use Rattle.lf_framing.specs.Outcome
+-- compaction and documents
 pub use Rattle.lf_printed.specs.JsonText
 pub use Rattle.lf_selection.specs.Slots
 pub use Rattle.lf_selection.specs.Chosen
 pub use Rattle.lf_selection.specs.Iris
+pub use Rattle.lf_documents.specs.Values as CompactedValues
+pub use Rattle.lf_documents.specs.Entries as PropertyEntries
 pub use Rattle.lf_documents.specs.Nodes
 pub use Rattle.lf_documents.specs.Pruning
 pub use Rattle.lf_documents.specs.Document
 pub use Rattle.lf_scratch.specs.Scratch
+-- histories and desks
 pub use Rattle.lf_histories.specs.History
 pub use Rattle.lf_histories.specs.Replay
 pub use Rattle.lf_histories.specs.Legal

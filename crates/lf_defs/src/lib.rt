@@ -2,6 +2,9 @@
 //! change proves little anew; `docs/ARCHITECTURE.md` says which crate holds what.
 #![tactic(auto)]
 
+#[cfg(test)]
+mod tests;
+
 pub use lf_base::{ListOf, Memory, Same, Steps, Text, TextList, TryCopy};
 pub use lf_desk::Desk;
 pub use lf_grammar::LineKind;

@@ -1,1 +1,2 @@
+pub mod LearntProofs
 mod NearLemmas

@@ -2,12 +2,14 @@
 #![tactic(auto)]
 
 mod asking;
+mod laws;
 mod naming;
 mod no_quads;
 mod nodes;
 mod oracle;
 
 pub use asking::ask_flag;
+pub use laws::{learnt_is_exact, learnt_stays};
 pub use naming::names_graph;
 pub use no_quads::NoQuads;
 pub use nodes::Nodes;

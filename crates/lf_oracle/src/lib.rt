@@ -7,6 +7,8 @@ mod naming;
 mod no_quads;
 mod nodes;
 mod oracle;
+#[cfg(test)]
+mod tests;
 
 pub use asking::ask_flag;
 pub use laws::{learnt_is_exact, learnt_stays};

@@ -9,5 +9,6 @@ pub mod Takes
 pub mod TakesLine
 pub mod EachText
 pub mod BadCases
-pub mod EscapeCase
+pub mod Faults
 pub mod EachKind
+pub mod StatesGiven

@@ -70,7 +70,7 @@ numbered_takes letter count text x e =
     } in
     subst (λ (y : ℕ × List ℕ). IsNumbered (92 ∷ letter ∷ text) letter count y.0 y.1) g.1 made
 
-unicode_takes : (text : List ℕ) (x : ℕ × List ℕ) → unicode_at text ≡ Some x → IsUnicodeEscape (92 ∷ text) x.0 x.1
+pub unicode_takes : (text : List ℕ) (x : ℕ × List ℕ) → unicode_at text ≡ Some x → IsUnicodeEscape (92 ∷ text) x.0 x.1
 unfolding unicode_at
 unicode_takes [] x e = absurd cc
 unicode_takes (letter ∷ text) x e =

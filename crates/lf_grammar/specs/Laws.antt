@@ -1,17 +1,18 @@
 -- What the definitions of patch texts are meant to say.
-use Rattle.std.specs.Prelude.{◌≡◌, ◌≤◌, ◌↔◌, ◌⊎◌, ℕ, true, List, [], ◌∷◌, length, Option, Some}
+use Rattle.std.specs.Prelude.{◌≡◌, ◌<◌, ◌≤◌, ◌↔◌, ◌⊎◌, ℕ, true, List, [], ◌∷◌, length, Option, Some}
+use Rattle.std.specs.List.{AllByRecursion}
 use Rattle.lf_rdf.specs.declared.quad.Quad.{Quad}
 use Rattle.lf_rdf.specs.declared.quad.Signed.{Signed}
 use Rattle.lf_rdf.specs.Canonical.{line}
 use Rattle.lf_grammar.specs.declared.kind.LineKind.{LineKind}
-use Rattle.lf_grammar.specs.declared.kind.LineKind.TheVariants.{RelativeIri, BadEscape}
+use Rattle.lf_grammar.specs.declared.kind.LineKind.TheVariants.{Syntax, RelativeIri, BadEscape, NotUtf8, LineTooLong}
 use Rattle.lf_grammar.specs.Terminals.{Allowed}
 use Rattle.lf_grammar.specs.Statements.{IsLineOf}
 use Rattle.lf_grammar.specs.Reading.{line_at}
-use Rattle.lf_grammar.specs.PatchText.{line_limit, IsPatchText}
+use Rattle.lf_grammar.specs.PatchText.{lines_of, line_limit, IsPatchText}
 use Rattle.lf_grammar.specs.BadLine.{IsFirstBad, IsBadLine}
 use Rattle.lf_grammar.specs.Given.{IsGiven}
-use Rattle.lf_grammar.specs.WorkedCases.{third_line_relative, escaped_space}
+use Rattle.lf_grammar.specs.WorkedCases.{third_line_relative, escaped_space, escaped_surrogate, relative_before_escape, literal_predicate, no_utf8}
 
 -- A text states at most one list of signed quads.
 abbrev pub OneList : Type 0
@@ -54,6 +55,19 @@ LineRead =
     (allowed : Allowed) (characters : List ℕ) (stated : Option Signed)
     → (line_at allowed characters ≡ Some stated) ↔ IsLineOf allowed characters stated
 
--- Two worked cases: a third line with a relative IRI, and an IRI with an escape of a space.
+-- What a text states is of such terms as canonical lines can give back.
+abbrev pub StatesGiven : Type 0
+StatesGiven = (text : List ℕ) (signed : List Signed) → IsPatchText text signed → AllByRecursion (λ line. IsGiven line.quad) signed
+
+-- Worked cases of bad lines: one of each kind, and of two faults the one that stands first in the line.
 abbrev pub WorkedBadLines : Type 0
-WorkedBadLines = IsBadLine third_line_relative 3 RelativeIri × IsBadLine escaped_space 1 BadEscape
+WorkedBadLines =
+    IsBadLine third_line_relative 3 RelativeIri × IsBadLine escaped_space 1 BadEscape × IsBadLine escaped_surrogate 1 BadEscape
+    × IsBadLine relative_before_escape 1 RelativeIri
+    × IsBadLine literal_predicate 1 Syntax
+    × IsBadLine no_utf8 1 NotUtf8
+
+-- A line with more bytes than a line may have is bad by its length, whatever stands in it.
+abbrev pub LongLineIsBad : Type 0
+LongLineIsBad =
+    (line : List ℕ) → lines_of line ≡ line ∷ [] → line_limit < length line → IsBadLine line 1 LineTooLong

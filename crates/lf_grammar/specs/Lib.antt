@@ -6,4 +6,6 @@ pub mod BadLine
 pub mod Reading
 pub mod Given
 pub mod WorkedCases
+pub mod CharacterCases
+pub mod LineCases
 pub mod Laws

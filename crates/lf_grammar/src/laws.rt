@@ -1,4 +1,4 @@
-ghost use Rattle.lf_grammar.specs.Laws.{OneList, NeverBoth, OneBadLine, CanonicalStates, CanonicalIsOne, LineRead, EachText, EachKind, WorkedBadLines};
+ghost use Rattle.lf_grammar.specs.Laws.{OneList, NeverBoth, OneBadLine, CanonicalStates, CanonicalIsOne, LineRead, EachText, EachKind, StatesGiven, WorkedBadLines, LongLineIsBad};
 
 /// A text states at most one list of signed quads.
 pub fn one_list()
@@ -35,9 +35,19 @@ pub fn each_text()
     ensures { EachText }
 {}
 
-/// Two worked cases of bad lines.
+/// What a text states is of such terms as canonical lines can give back.
+pub fn states_given()
+    ensures { StatesGiven }
+{}
+
+/// Worked cases of bad lines: one of each kind, and of two faults the one that stands first.
 pub fn worked_bad_lines()
     ensures { WorkedBadLines }
+{}
+
+/// A line with more bytes than a line may have is bad by its length, whatever stands in it.
+pub fn long_line_is_bad()
+    ensures { LongLineIsBad }
 {}
 
 /// A first bad line isn't without a kind.

@@ -6,6 +6,6 @@ mod laws;
 
 pub use kind::LineKind;
 pub use laws::{
-    canonical_is_one, canonical_states, each_kind, each_text, line_read, never_both, one_bad_line,
-    one_list, worked_bad_lines,
+    canonical_is_one, canonical_states, each_kind, each_text, line_read, long_line_is_bad,
+    never_both, one_bad_line, one_list, states_given, worked_bad_lines,
 };

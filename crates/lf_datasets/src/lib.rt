@@ -5,8 +5,8 @@
 mod cell_laws;
 mod legible_laws;
 mod near_laws;
+mod predicates;
 mod question_laws;
-mod tests;
 mod value_laws;
 mod version_laws;
 mod view_laws;
@@ -20,11 +20,11 @@ pub use legible_laws::{
     texts_tell_terms,
 };
 pub use near_laws::{near_is_least, near_of_near};
+pub use predicates::{is_blank, is_node, is_use, lies_in, tells_type, touches};
 pub use question_laws::{
     answers_reply, members_in_order, terms_in_order, terms_stand_in_quads, touching_quads_decide,
     untouched_answers, untouched_by_patch,
 };
-pub use tests::{is_blank, is_node, is_use, lies_in, tells_type, touches};
 pub use value_laws::{
     cell_values, items_in_order, literal_values, nil_value, reference_values, steps_suffice,
 };

@@ -8,3 +8,5 @@ pub mod NestedList
 pub mod MixedValues
 pub mod AskedQuestions
 pub mod NearTerms
+pub mod ListForms
+pub mod SharedNodes

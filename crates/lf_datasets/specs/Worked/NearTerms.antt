@@ -1,10 +1,10 @@
 -- Terms near the subject of a list: its cells; and near a named graph's name: what stands in the graph.
-use Rattle.std.specs.Prelude.{refl, [], codes}
+use Rattle.std.specs.Prelude.{refl, [], ◌∷◌, codes}
 use Rattle.lf_rdf.specs.declared.question.GraphRef.TheVariants as graph
 use Rattle.lf_rdf.specs.declared.question.Question.TheVariants as ask
 use Rattle.lf_rdf.specs.Vocabulary.{rdf_type, rdf_first, rdf_rest, rdf_nil, xsd_string}
-use Rattle.lf_datasets.specs.Near.{Near, NearQuestion, itself, by_object, by_use, in_graph}
-use Rattle.lf_datasets.specs.Worked.Words.{plain, quad, quad_in, a, g, l, p, nil}
+use Rattle.lf_datasets.specs.Near.{Near, NearQuestion, itself, by_object, by_use, by_reverse, in_graph, in_graph_object}
+use Rattle.lf_datasets.specs.Worked.Words.{plain, quad, quad_in, a, b, g, l, p, nil}
 use Rattle.lf_datasets.specs.Worked.ListLosesCell as cells
 use Rattle.lf_datasets.specs.Worked.NamedGraph as graphs
 
@@ -30,3 +30,13 @@ node_of_graph = in_graph g (quad_in g a p (plain (codes "1"))) refl refl itself 
 
 pub members_are_near : NearQuestion graphs.dataset [] g (ask.Members (graph.Named g))
 members_are_near = itself
+
+-- what stands under a type in the graph is near its name too
+pub type_of_graph : Near (quad_in g a rdf_type b ∷ []) [] g b
+unfolding a b g rdf_type
+type_of_graph = in_graph_object g (quad_in g a rdf_type b) refl refl itself refl
+
+-- back from an object to a subject, by a property of a `@reverse`
+pub pointing_back : Near (quad a p b ∷ quad g p b ∷ []) (l ∷ p ∷ []) b g
+unfolding a b g l p
+pointing_back = by_reverse (quad g p b) refl refl itself

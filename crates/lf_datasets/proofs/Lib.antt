@@ -10,3 +10,4 @@ pub mod ViewProofs
 pub mod LegibleProofs
 pub mod NearProofs
 pub mod TellProofs
+pub mod PointingProofs

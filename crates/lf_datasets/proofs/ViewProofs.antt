@@ -26,7 +26,7 @@ use Rattle.lf_datasets.proofs.ValueProofs.{steps_suffice_here}
 -- ---- some value of a list passes
 
 module _ {A : Type 0} where
-  any_mono : (p q : A → Bool) → ((x : A) → p x ≡ true → q x ≡ true) → (xs : List A) → list_any p xs ≡ true → list_any q xs ≡ true
+  pub any_mono : (p q : A → Bool) → ((x : A) → p x ≡ true → q x ≡ true) → (xs : List A) → list_any p xs ≡ true → list_any q xs ≡ true
   any_mono p q f [] e = e
   any_mono p q f (x ∷ xs) e =
       ⊎_elim (λ h. or_left (q x) (list_any q xs) (f x h)) (λ h. or_right (q x) (list_any q xs) (any_mono p q f xs h)) (or_cases (p x) (list_any p xs) e)
@@ -49,7 +49,7 @@ module _ {A : Type 0} where
   any-map p f [] = refl
   any-map p f (x ∷ xs) = ap (λ (w : Bool). p (f x) || w) (any-map p f xs)
 
-  any_found : (p : A → Bool) (xs : List A) → list_any p xs ≡ true → (x : A) × (p x ≡ true) × ((q : A → Bool) → q x ≡ true → list_any q xs ≡ true)
+  pub any_found : (p : A → Bool) (xs : List A) → list_any p xs ≡ true → (x : A) × (p x ≡ true) × ((q : A → Bool) → q x ≡ true → list_any q xs ≡ true)
   any_found p [] e = absurd (false≢true e)
   any_found p (x ∷ xs) e = go (or_cases (p x) (list_any p xs) e) (any_found p xs)
     where
@@ -275,7 +275,7 @@ pub keys_in_order : KeysInOrder
 keys_in_order dataset g =
     ascends-filter id_strict (is_key dataset g) (members_by (answers_of dataset) g) (members_ascend dataset g)
 
-graph_told : (name : Term) (label : Option Term) → option_eq term_eq (Some name) label ≡ true → graph.Named name ≡ graph_named label
+pub graph_told : (name : Term) (label : Option Term) → option_eq term_eq (Some name) label ≡ true → graph.Named name ≡ graph_named label
 graph_told name None e = absurd (false≢true e)
 graph_told name (Some other) e = ap graph.Named ((term_decides name other).0 e)
 

@@ -1,5 +1,5 @@
 -- What holds of keys and views, whatever the dataset (JSON-LD 1.1 Framing, section 4.1).
-use Rattle.std.specs.Prelude.{◌≡◌, List, ◌∷◌, map, ℕ, ◌≤◌, ◌&&◌, IsTrue, IsFalse, is_some}
+use Rattle.std.specs.Prelude.{◌≡◌, List, ◌∷◌, map, ℕ, ◌≤◌, Bool, ◌&&◌, not, IsTrue, IsFalse, is_some}
 use Rattle.std.specs.List.{list_any}
 use Rattle.lf_rdf.specs.declared.term.Term.{Term}
 use Rattle.lf_rdf.specs.declared.quad.Quad.{Quad}
@@ -10,11 +10,11 @@ use Rattle.lf_rdf.specs.Equality.{text_eq, term_eq}
 use Rattle.lf_datasets.specs.Sorted as sorted
 use Rattle.lf_datasets.specs.Order.{text_cmp, id_cmp, term_cmp}
 use Rattle.lf_datasets.specs.Dataset.{holds}
-use Rattle.lf_datasets.specs.Terms.{graph_of, names}
+use Rattle.lf_datasets.specs.Terms.{lies_in, graph_of, names}
 use Rattle.lf_datasets.specs.Questions.{answers_of}
 use Rattle.lf_datasets.specs.Cells.{enough}
 use Rattle.lf_datasets.specs.Values.{value_of}
-use Rattle.lf_datasets.specs.Views.{is_type_quad, types_in, properties_in, quads_under, key_by, keys_by, view_by, pointing_by, is_key, keys, view_of, pointing}
+use Rattle.lf_datasets.specs.Views.{is_type_quad, types_in, properties_in, quads_under, key_by, keys_by, view_by, pointing_by, is_reference_to, is_key, keys, view_of, pointing}
 
 -- the keys that are listed are those that the rule tells, and no others
 abbrev pub KeysAreListed : Type 0
@@ -81,3 +81,25 @@ abbrev pub ObjectsInOrder : Type 0
 ObjectsInOrder =
     (quads : List Quad) (property : List ℕ)
     → IsTrue (sorted.ascends term_cmp (map (λ q. q.object) (quads_under property quads)))
+
+-- A quad shows that its subject points at a node under a property in a graph: it lies there and tells no type, the subject is a
+-- key of the quad's graph, and the value of the node there is the reference to it.
+abbrev pub points : List Quad → GraphRef → List ℕ → Term → Term → Quad → Bool
+points dataset g property node s q =
+    lies_in g q
+    && (term_eq q.subject s
+    && (is_key dataset (graph_of q) s
+    && (not (is_type_quad q)
+    && (text_eq property (id_of q.predicate)
+    && (term_eq q.object node && is_reference_to node (value_of dataset (graph_of q) node))))))
+
+-- the keys that point at a node are those of which a quad shows it, once each, in order of their ids
+abbrev pub PointingIsTold : Type 0
+PointingIsTold =
+    (dataset : List Quad) (g : GraphRef) (property : List ℕ) (node s : Term)
+    → sorted.has term_eq (pointing dataset g property node) s ≡ list_any (points dataset g property node s) dataset
+
+abbrev pub PointingInOrder : Type 0
+PointingInOrder =
+    (dataset : List Quad) (g : GraphRef) (property : List ℕ) (node : Term)
+    → IsTrue (sorted.ascends id_cmp (pointing dataset g property node))

@@ -34,6 +34,6 @@ pub use version_laws::{
 };
 pub use view_laws::{
     keys_are_listed, keys_have_views, keys_in_order, merged_keys, objects_are_told,
-    objects_in_order, properties_are_told, properties_in_order, shared_objects, types_are_told,
-    types_in_order, view_steps_suffice,
+    objects_in_order, pointing_in_order, pointing_is_told, properties_are_told,
+    properties_in_order, shared_objects, types_are_told, types_in_order, view_steps_suffice,
 };

@@ -1,4 +1,4 @@
-ghost use Rattle.lf_datasets.specs.ViewLaws.{KeysAreListed, KeysInOrder, MergedKeys, KeysHaveViews, ViewStepsSuffice, SharedObjects, TypesAreTold, TypesInOrder, PropertiesAreTold, PropertiesInOrder, ObjectsAreTold, ObjectsInOrder};
+ghost use Rattle.lf_datasets.specs.ViewLaws.{KeysAreListed, KeysInOrder, MergedKeys, KeysHaveViews, ViewStepsSuffice, SharedObjects, TypesAreTold, TypesInOrder, PropertiesAreTold, PropertiesInOrder, ObjectsAreTold, ObjectsInOrder, PointingIsTold, PointingInOrder};
 
 /// The keys that are listed are those that the rule tells, and no others.
 #[tactic(auto, using(crate::proofs::ViewProofs::keys_are_listed))]
@@ -69,4 +69,15 @@ pub fn objects_are_told()
 #[tactic(auto, using(crate::proofs::TellProofs::objects_in_order))]
 pub fn objects_in_order()
     ensures { ObjectsInOrder }
+{}
+
+/// The keys that point at a node are those of which a quad shows it.
+#[tactic(auto, using(crate::proofs::PointingProofs::pointing_is_told))]
+pub fn pointing_is_told()
+    ensures { PointingIsTold }
+{}
+
+/// The keys that point at a node stand each once, in order of their ids.
+pub fn pointing_in_order()
+    ensures { PointingInOrder }
 {}

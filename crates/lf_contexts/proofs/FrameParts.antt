@@ -25,7 +25,7 @@ use Rattle.lf_contexts.specs.FrameFlags.{FlagKey, embed_key, explicit_key, requi
 use Rattle.lf_contexts.specs.GivenValues.{Coercion, to_id, to_vocab, to_datatype, uncoerced, coercion_of, Given, reference_or_refused, text_coerced, given}
 use Rattle.lf_contexts.specs.ValuePatterns.{scalar_of, scalars_of, part_list, part_of}
 use Rattle.lf_contexts.specs.Defaults.{default_scalar, referenced, default_reference, datatype_expanded, default_datatype, default_language, some_scalar, default_value_scalar, is_default_key, default_value, default_of, defaults_of_items, defaults_of}
-use Rattle.lf_contexts.specs.FrameLaws.{makes_reference, refers}
+use Rattle.lf_contexts.specs.FrameCauses.{makes_reference, refers, is_truth}
 use Rattle.lf_contexts.proofs.Holding.{Holds, then-holds, refuse-holds, cond-holds}
 
 module _ (Q : LdError → Type 0) where
@@ -71,24 +71,24 @@ module _ (Q : LdError → Type 0) where
   embed_given-refuses (truth false) q = tt
   embed_given-refuses _ q = q
 
-  truth_given-refuses : (value : JsonValue) → Q ld.InvalidFrame → Refuses (truth_given value)
+  truth_given-refuses : (value : JsonValue) → (not (is_truth value) ≡ true → Q ld.InvalidFrame) → Refuses (truth_given value)
   truth_given-refuses (truth b) q = tt
-  truth_given-refuses _ q = q
+  truth_given-refuses _ q = q refl
 
-  -- the flag whose error is its own
-  abbrev pub FlagAllows : FlagKey → Type 0
-  FlagAllows embed_key = Q ld.InvalidEmbedValue
-  FlagAllows _ = ⊤
+  -- the error of a flag
+  abbrev pub FlagAllows : FlagKey → JsonValue → Type 0
+  FlagAllows embed_key value = Q ld.InvalidEmbedValue
+  FlagAllows _ value = not (is_truth (alone value)) ≡ true → Q ld.InvalidFrame
 
-  pub flag-refuses : (flag : FlagKey) (value : JsonValue) (flags : Flags) → FlagAllows flag → Q ld.InvalidFrame → Refuses (flag_stated flag value flags)
-  flag-refuses embed_key value flags own q =
+  pub flag-refuses : (flag : FlagKey) (value : JsonValue) (flags : Flags) → FlagAllows flag value → Refuses (flag_stated flag value flags)
+  flag-refuses embed_key value flags own =
       then-holds Q (λ (_ : Embed). ⊤) (λ (_ : Flags). ⊤) (embed_given (alone value)) _ (embed_given-refuses (alone value) own) (λ e h. tt)
-  flag-refuses explicit_key value flags own q =
-      then-holds Q (λ (_ : Bool). ⊤) (λ (_ : Flags). ⊤) (truth_given (alone value)) _ (truth_given-refuses (alone value) q) (λ e h. tt)
-  flag-refuses require_all_key value flags own q =
-      then-holds Q (λ (_ : Bool). ⊤) (λ (_ : Flags). ⊤) (truth_given (alone value)) _ (truth_given-refuses (alone value) q) (λ e h. tt)
-  flag-refuses omit_default_key value flags own q =
-      then-holds Q (λ (_ : Bool). ⊤) (λ (_ : Flags). ⊤) (truth_given (alone value)) _ (truth_given-refuses (alone value) q) (λ e h. tt)
+  flag-refuses explicit_key value flags own =
+      then-holds Q (λ (_ : Bool). ⊤) (λ (_ : Flags). ⊤) (truth_given (alone value)) _ (truth_given-refuses (alone value) own) (λ e h. tt)
+  flag-refuses require_all_key value flags own =
+      then-holds Q (λ (_ : Bool). ⊤) (λ (_ : Flags). ⊤) (truth_given (alone value)) _ (truth_given-refuses (alone value) own) (λ e h. tt)
+  flag-refuses omit_default_key value flags own =
+      then-holds Q (λ (_ : Bool). ⊤) (λ (_ : Flags). ⊤) (truth_given (alone value)) _ (truth_given-refuses (alone value) own) (λ e h. tt)
 
   part_list-refuses : (o : Option (List Scalar)) → Q ld.InvalidValueObject → Refuses (part_list o)
   part_list-refuses (Some scalars) q = tt

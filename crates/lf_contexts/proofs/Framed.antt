@@ -1,5 +1,5 @@
 -- The laws of frames.
-use Rattle.std.proofs.Common.{◌≡◌, true, false, unwrap_or, Result, Ok, Err, IsTrue, refl, sym, ◌∙◌, subst, true≢false, codes}
+use Rattle.std.proofs.Common.{◌≡◌, Bool, true, false, ◌&&◌, ◌||◌, List, [], ◌∷◌, unwrap_or, Result, Ok, Err, IsTrue, refl, sym, ◌∙◌, subst, true≢false, codes}
 use Rattle.std.specs.Bool.{⊤}
 use Rattle.lf_model.specs.declared.table.TermTable.{TermTable}
 use Rattle.lf_model.specs.declared.error.LdError.{LdError}
@@ -13,7 +13,8 @@ use Rattle.lf_contexts.specs.Causes.{is_context_error}
 use Rattle.lf_contexts.specs.FrameKeys.{Meaning, meaning_of}
 use Rattle.lf_contexts.specs.SubFrames.{top_frame}
 use Rattle.lf_contexts.specs.Frames.{FrameMeaning, one_map, without_key, is_graph_key, unwrapped, frame_by, frame_of}
-use Rattle.lf_contexts.specs.FrameLaws.{is_sound, FramesAreSound, FrameTermsAreItsContexts, speaks, value_speaks, items_speak, members_speak, top_cause, FrameErrorsHaveCauses, is_frame_error, FrameErrorsAreNamed, OneMapInAnArray, ContextErrorsComeFirst}
+use Rattle.lf_contexts.specs.FrameLaws.{is_sound, FramesAreSound, FrameTermsAreItsContexts, is_frame_error, FrameErrorsAreNamed, OneMapInAnArray, ContextErrorsComeFirst}
+use Rattle.lf_contexts.specs.FrameCauses.{speaks, holds_frames, value_speaks, items_speak, members_speak, FrameErrorsHaveCauses}
 use Rattle.lf_contexts.proofs.Holding.{Holds, then-holds, cond-holds}
 use Rattle.lf_contexts.proofs.Tables.{errors_are_named}
 use Rattle.lf_contexts.proofs.FrameReading.{top-holds}
@@ -27,20 +28,20 @@ known-holds Q R (Err e) next q h = q e refl
 
 pub frame_errors_have_causes : FrameErrorsHaveCauses
 frame_errors_have_causes table given e h =
-    subst (Holds (λ e. IsTrue (top_cause e table given)) (λ nested. is_sound nested ≡ true)) h (top-holds table given)
+    subst (Holds (λ e. IsTrue (members_speak e table [] given)) (λ nested. is_sound nested ≡ true)) h (top-holds table given)
 
 top-sound : (table : TermTable) (given : JsonMembers) (nested : Nested) → top_frame table given ≡ Ok nested → is_sound nested ≡ true
 top-sound table given nested h =
-    subst (Holds (λ e. IsTrue (top_cause e table given)) (λ nested. is_sound nested ≡ true)) h (top-holds table given)
+    subst (Holds (λ e. IsTrue (members_speak e table [] given)) (λ nested. is_sound nested ≡ true)) h (top-holds table given)
 
 -- an error of which no key speaks
 abbrev IsMute : LdError → Type 0
-IsMute e = (m : Meaning) → speaks e m ≡ false
+IsMute e = (before : List Meaning) (m : Meaning) (value : JsonValue) → speaks e before m value ≡ false
 
 mutual
   value-mute : (e : LdError) (table : TermTable) (value : JsonValue) → IsMute e → value_speaks e table value ≡ false
   value-mute e table (array items) mute = items-mute e table items mute
-  value-mute e table (object given) mute = members-mute e table given mute
+  value-mute e table (object given) mute = members-mute e table [] given mute
   value-mute e table null mute = refl
   value-mute e table (truth b) mute = refl
   value-mute e table (whole n) mute = refl
@@ -51,18 +52,23 @@ mutual
   items-mute e table no_items mute = refl
   items-mute e table (item value rest) mute = rw (value-mute e table value mute, items-mute e table rest mute) refl
 
-  members-mute : (e : LdError) (table : TermTable) (given : JsonMembers) → IsMute e → members_speak e table given ≡ false
-  members-mute e table no_members mute = refl
-  members-mute e table (member key value rest) mute =
-      rw (mute (meaning_of table key), value-mute e table value mute, members-mute e table rest mute) refl
+  members-mute : (e : LdError) (table : TermTable) (before : List Meaning) (given : JsonMembers) → IsMute e → members_speak e table before given ≡ false
+  members-mute e table before no_members mute = refl
+  members-mute e table before (member key value rest) mute =
+      rw (mute before (meaning_of table key) value, value-mute e table value mute, members-mute e table (meaning_of table key ∷ before) rest mute)
+      (nothing (holds_frames (meaning_of table key)))
+    where
+      nothing : (b : Bool) → ((b && false) || false) ≡ false
+      nothing true = refl
+      nothing false = refl
 
 context-frame : (e : LdError) → IsTrue (is_context_error e) → IsTrue (is_frame_error e)
 context-frame ld.IriConfusedWithPrefix h = h
 context-frame _ h = refl
 
-top-frame : (e : LdError) (table : TermTable) (given : JsonMembers) → IsTrue (top_cause e table given) → IsTrue (is_frame_error e)
+top-frame : (e : LdError) (table : TermTable) (given : JsonMembers) → IsTrue (members_speak e table [] given) → IsTrue (is_frame_error e)
 top-frame ld.IriConfusedWithPrefix table given h =
-    absurd (true≢false (sym h ∙ members-mute ld.IriConfusedWithPrefix table given (λ m. refl)))
+    absurd (true≢false (sym h ∙ members-mute ld.IriConfusedWithPrefix table [] given (λ before m value. refl)))
 top-frame _ table given h = refl
 
 -- the errors and the meaning of a frame

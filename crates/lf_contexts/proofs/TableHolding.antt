@@ -1,5 +1,5 @@
 -- What the table of a context keeps, and which errors it gives.
-use Rattle.std.proofs.Common.{◌≡◌, ℕ, zero, suc, Bool, true, false, ◌||◌, List, [], ◌∷◌, Option, Some, None, is_some, IsTrue, refl, sym, ap, ◌∙◌, subst, true≢false, codes, cond, length, ◌<◌, ◌≤◌, arith, inl, inr}
+use Rattle.std.proofs.Common.{◌≡◌, ℕ, zero, suc, Bool, true, false, not, ◌&&◌, ◌||◌, List, [], ◌∷◌, Option, Some, None, is_some, IsTrue, refl, sym, ap, ◌∙◌, subst, true≢false, codes, cond, length, ◌<◌, ◌≤◌, arith, inl, inr}
 use Rattle.std.specs.Bool.{⊤}
 use Rattle.std.specs.List.{list_any}
 use Rattle.std.specs.Cmp.Lexicographic.{bytes_decides}
@@ -7,7 +7,7 @@ use Rattle.std.proofs.lemmas.Option.{same_Some}
 use Rattle.lf_model.specs.declared.table.TermTable.{TermTable}
 use Rattle.lf_model.specs.declared.error.LdError.{LdError}
 use Rattle.lf_model.specs.declared.error.LdError.TheVariants as ld
-use Rattle.lf_model.specs.JsonData.{JsonValue, JsonItems, JsonMembers, null, truth, whole, fraction, text, array, object, no_items, item}
+use Rattle.lf_model.specs.JsonData.{JsonValue, JsonItems, JsonMembers, null, truth, whole, fraction, text, array, object, no_items, item, no_members, member}
 use Rattle.lf_rdf.specs.Equality.{text_eq}
 use Rattle.lf_contexts.specs.Texts.{is_absolute, is_empty}
 use Rattle.lf_contexts.specs.Keywords.{keywords, is_keyword, has_keyword_form, one_of}
@@ -18,10 +18,12 @@ use Rattle.lf_contexts.specs.Drafts.{Draft, Need, forgotten}
 use Rattle.lf_contexts.specs.Table.{terms_of, is_bad_version, has_refused_key, vocab_expanded, vocab_of, default_language_of, map_table, empty_table, table_after, items_after, table_of}
 use Rattle.lf_contexts.specs.Defining.{NameKind, empty_name, type_name, keyword_name, ignored_name, ordinary_name, name_kind, sets_type, type_term, term_defined, Entry, entry_value, standing_of, made_ready, needed, Define, define, define_each, define_terms}
 use Rattle.lf_contexts.specs.TableLaws.{is_term_name, is_absolute_or_none}
-use Rattle.lf_contexts.specs.Causes.{is_bad_language, is_alias_error, is_definition_error, definition_cause, value_cause, entry_cause, map_cause, context_cause, items_cause}
+use Rattle.lf_contexts.specs.Causes.{is_null, is_given, is_bad_language, is_definition_error, definition_cause, value_cause, entry_cause, map_cause, context_cause, items_cause}
 use Rattle.lf_contexts.specs.Circles.{named_by, Leads, step, chain, HasCircle, ContextHasCircle, ItemsHaveCircle, CyclesAreCircles}
 use Rattle.lf_contexts.proofs.Room.{free, free-less, free-length}
 use Rattle.lf_contexts.proofs.Holding.{Holds, then-holds, refuse-holds, cond-holds, or_left, or_right}
+use Rattle.lf_contexts.proofs.Expanding.{second_true}
+use Rattle.lf_contexts.proofs.Ordered.{both_true}
 use Rattle.lf_contexts.proofs.Sound.{IsSound, IsSoundDraft, empty-sound, forgotten-sound}
 use Rattle.lf_contexts.proofs.TermHolding.{Each, Keeps, ordinary_term-holds}
 
@@ -29,7 +31,7 @@ use Rattle.lf_contexts.proofs.TermHolding.{Each, Keeps, ordinary_term-holds}
 abbrev KindFits : NameKind → List ℕ → Type 0
 KindFits empty_name name = is_empty name ≡ true
 KindFits type_name name = is_keyword name ≡ true
-KindFits keyword_name name = is_keyword name ≡ true
+KindFits keyword_name name = (is_keyword name ≡ true) × (text_eq name (codes "@type") ≡ false)
 KindFits ignored_name name = ⊤
 KindFits ordinary_name name = is_term_name name ≡ true
 
@@ -49,29 +51,39 @@ kind-fits name = by (is_empty name) (text_eq name (codes "@type")) (is_keyword n
         KindFits (cond empty empty_name (cond typed type_name (cond word keyword_name (cond formed ignored_name ordinary_name)))) name
     by true typed word formed a b c d = a
     by false true word formed a b c d = ap is_keyword (same-text name (codes "@type") b) ∙ type-keyword
-    by false false true formed a b c d = c
+    by false false true formed a b c d = (c, b)
     by false false false true a b c d = tt
     by false false false false a b c d = rw (a, c, d) refl
 
--- no value causes an error that speaks of none
-no-value :
-    (e : LdError) (value : JsonValue) → ((given : JsonMembers) → definition_cause e given ≡ false) →
-    is_alias_error e ≡ false → is_definition_error e ≡ false → IsTrue (value_cause e value) → ⊥
-no-value e null d a b h = true≢false (sym h)
-no-value e (truth x) d a b h = true≢false (sym h ∙ b)
-no-value e (whole n) d a b h = true≢false (sym h ∙ b)
-no-value e fraction d a b h = true≢false (sym h ∙ b)
-no-value e (text t) d a b h = true≢false (sym h ∙ a)
-no-value e (array items) d a b h = true≢false (sym h ∙ b)
-no-value e (object given) d a b h = true≢false (sym h ∙ d given)
+pub and-false : (a b : Bool) → b ≡ false → (a && b) ≡ false
+and-false true b h = h
+and-false false b h = refl
 
--- a cause in a value is a cause in its entry
-cause-up : (e : LdError) (entry : Entry) → IsTrue (value_cause e entry.value) → IsTrue (entry_cause e entry)
-cause-up ld.CyclicIriMapping entry h = refl
-cause-up ld.InvalidIriMapping entry h = refl
-cause-up ld.KeywordRedefinition entry h = absurd (no-value ld.KeywordRedefinition entry.value (λ _. refl) refl refl h)
-cause-up ld.InvalidTermDefinition entry h = or_right (is_empty entry.name) (value_cause ld.InvalidTermDefinition entry.value) h
-cause-up _ entry h = h
+-- no value causes an error of which no definition speaks
+pub value-none :
+    (e : LdError) (name : List ℕ) (value : JsonValue) → ((given : JsonMembers) → definition_cause e name given ≡ false) →
+    is_definition_error e ≡ false → value_cause e name value ≡ false
+value-none e name null d b = refl
+value-none e name (truth x) d b = b
+value-none e name (whole n) d b = b
+value-none e name fraction d b = b
+value-none e name (text t) d b = d (member (codes "@id") (text t) no_members)
+value-none e name (array items) d b = b
+value-none e name (object given) d b = and-false (not (is_null (value_of (codes "@id") given))) (definition_cause e name given) (d given)
+
+no-value :
+    (e : LdError) (name : List ℕ) (value : JsonValue) → ((given : JsonMembers) → definition_cause e name given ≡ false) →
+    is_definition_error e ≡ false → IsTrue (value_cause e name value) → ⊥
+no-value e name value d b h = true≢false (sym h ∙ value-none e name value d b)
+
+-- a cause in a value is a cause in the entry of its term
+cause-up : (e : LdError) (name : List ℕ) (value : JsonValue) → is_term_name name ≡ true → IsTrue (value_cause e name value) → IsTrue (entry_cause e (record { name = name; value = value }))
+cause-up ld.CyclicIriMapping name value named h = refl
+cause-up ld.KeywordRedefinition name value named h = absurd (no-value ld.KeywordRedefinition name value (λ _. refl) refl h)
+cause-up ld.InvalidTermDefinition name value named h =
+    or_right (is_empty name) (is_term_name name && value_cause ld.InvalidTermDefinition name value)
+    (both_true (is_term_name name) (value_cause ld.InvalidTermDefinition name value) named h)
+cause-up e name value named h = both_true (is_term_name name) (value_cause e name value) named h
 
 -- what a look-up finds is a term of the list
 found-any : (test : Entry → Bool) (name : List ℕ) (terms : List Entry) (value : JsonValue) → entry_value name terms ≡ Some value → IsTrue (test (record { name = name; value = value })) → IsTrue (list_any test terms)
@@ -129,29 +141,37 @@ leads-entry terms (step value found named) = (value, found)
 leads-entry terms (chain first second) = leads-entry terms first
 
 module _ (Q : LdError → Type 0) where
-  type_term-holds : (value : JsonValue) (draft : Draft) → Q ld.KeywordRedefinition → IsSoundDraft draft → Holds Q IsSoundDraft (type_term value draft)
+  type_term-holds : (value : JsonValue) (draft : Draft) → (sets_type value ≡ false → Q ld.KeywordRedefinition) → IsSoundDraft draft → Holds Q IsSoundDraft (type_term value draft)
   type_term-holds value draft q sound =
       cond-holds Q IsSoundDraft (sets_type value) _ _
-      (λ _. record { ascending = sound.ascending; terms = sound.terms; vocab = sound.vocab }) (λ _. q)
+      (λ _. record { ascending = sound.ascending; terms = sound.terms; vocab = sound.vocab }) q
 
   -- the causes of a term's entry, but for a cycle
   abbrev pub AllowsEntry : List ℕ → JsonValue → Type 0
   AllowsEntry name value = (e : LdError) → is_cycle e ≡ false → IsTrue (entry_cause e (record { name = name; value = value })) → Q e
 
-  value-allows : (name : List ℕ) (value : JsonValue) → AllowsEntry name value → (e : LdError) → IsTrue (value_cause e value) → Q e
-  value-allows name value allows ld.CyclicIriMapping h = absurd (no-value ld.CyclicIriMapping value (λ _. refl) refl refl h)
-  value-allows name value allows e h = allows e refl (cause-up e (record { name = name; value = value }) h)
+  value-allows : (name : List ℕ) (value : JsonValue) → is_term_name name ≡ true → AllowsEntry name value → (e : LdError) → IsTrue (value_cause e name value) → Q e
+  value-allows name value named allows ld.CyclicIriMapping h = absurd (no-value ld.CyclicIriMapping name value (λ _. refl) refl h)
+  value-allows name value named allows e h = allows e refl (cause-up e name value named h)
+
+  redefined : (name : List ℕ) (value : JsonValue) → AllowsEntry name value → is_keyword name ≡ true → (text_eq name (codes "@type") && sets_type value) ≡ false → Q ld.KeywordRedefinition
+  redefined name value allows word other =
+      allows ld.KeywordRedefinition refl
+      (both_true (is_keyword name) (not (text_eq name (codes "@type") && sets_type value)) word (rw other refl))
 
   term_defined-holds : (W : List ℕ → Type 0) (kind : NameKind) (need : Need) (name : List ℕ) (value : JsonValue) (draft : Draft) → KindFits kind name → AllowsEntry name value → Each W (named_by name value) → Keeps Q W need → IsSoundDraft draft → Holds Q IsSoundDraft (term_defined kind need name value draft)
   term_defined-holds W empty_name need name value draft fits allows w keeps sound =
-      allows ld.InvalidTermDefinition refl (or_left (is_empty name) (value_cause ld.InvalidTermDefinition value) fits)
+      allows ld.InvalidTermDefinition refl
+      (or_left (is_empty name) (is_term_name name && value_cause ld.InvalidTermDefinition name value) fits)
   term_defined-holds W type_name need name value draft fits allows w keeps sound =
-      type_term-holds value draft (allows ld.KeywordRedefinition refl fits) sound
-  term_defined-holds W keyword_name need name value draft fits allows w keeps sound = allows ld.KeywordRedefinition refl fits
+      type_term-holds value draft
+      (λ fails. redefined name value allows fits (and-false (text_eq name (codes "@type")) (sets_type value) fails)) sound
+  term_defined-holds W keyword_name need name value draft fits allows w keeps sound =
+      redefined name value allows fits.0 (rw (fits.1) refl)
   term_defined-holds W ignored_name need name value draft fits allows w keeps sound = sound
   term_defined-holds W ordinary_name need name value draft fits allows w keeps sound =
-      ordinary_term-holds Q W need name value (forgotten name draft) fits (value-allows name value allows)
-      (allows ld.InvalidIriMapping refl refl) w keeps (forgotten-sound name draft sound)
+      ordinary_term-holds Q W need name value (forgotten name draft) fits (value-allows name value fits allows)
+      w keeps (forgotten-sound name draft sound)
 
   -- what a definition of a term of the list keeps, where these are being defined
   abbrev pub Defines : List Entry → Define → List (List ℕ) → Type 0
@@ -210,7 +230,7 @@ module _ (Q : LdError → Type 0) where
       cond-holds Q (λ v. is_absolute_or_none v ≡ true) (is_absolute iri) _ _ (λ e. e) (λ _. q)
   vocab_expanded-holds None q = q
 
-  vocab-holds : (table : TermTable) (o : Option JsonValue) → (IsTrue (is_some o) → Q ld.InvalidVocabMapping) → IsSound table → Holds Q (λ v. is_absolute_or_none v ≡ true) (vocab_of table o)
+  vocab-holds : (table : TermTable) (o : Option JsonValue) → (IsTrue (is_given o) → Q ld.InvalidVocabMapping) → IsSound table → Holds Q (λ v. is_absolute_or_none v ≡ true) (vocab_of table o)
   vocab-holds table None q sound = sound.vocab
   vocab-holds table (Some null) q sound = refl
   vocab-holds table (Some (text name)) q sound = vocab_expanded-holds (expand table name true) (q refl)
@@ -231,10 +251,10 @@ module _ (Q : LdError → Type 0) where
   entry-map given name value allows found e c h = by e c h (found-any (entry_cause e) name (terms_of given) value found h)
     where
       by : (e : LdError) → is_cycle e ≡ false → IsTrue (entry_cause e (record { name = name; value = value })) → IsTrue (list_any (entry_cause e) (terms_of given)) → Q e
-      by ld.InvalidVersionValue c h k = absurd (no-value ld.InvalidVersionValue value (λ _. refl) refl refl h)
-      by ld.InvalidLocalContext c h k = absurd (no-value ld.InvalidLocalContext value (λ _. refl) refl refl h)
-      by ld.InvalidVocabMapping c h k = absurd (no-value ld.InvalidVocabMapping value (λ _. refl) refl refl h)
-      by ld.InvalidDefaultLanguage c h k = absurd (no-value ld.InvalidDefaultLanguage value (λ _. refl) refl refl h)
+      by ld.InvalidVersionValue c h k = absurd (no-value ld.InvalidVersionValue name value (λ _. refl) refl (second_true (is_term_name name) (value_cause ld.InvalidVersionValue name value) h))
+      by ld.InvalidLocalContext c h k = absurd (no-value ld.InvalidLocalContext name value (λ _. refl) refl (second_true (is_term_name name) (value_cause ld.InvalidLocalContext name value) h))
+      by ld.InvalidVocabMapping c h k = absurd (no-value ld.InvalidVocabMapping name value (λ _. refl) refl (second_true (is_term_name name) (value_cause ld.InvalidVocabMapping name value) h))
+      by ld.InvalidDefaultLanguage c h k = absurd (no-value ld.InvalidDefaultLanguage name value (λ _. refl) refl (second_true (is_term_name name) (value_cause ld.InvalidDefaultLanguage name value) h))
       by e c h k = allows.causes e c k
 
   map_table-holds : (given : JsonMembers) (table : TermTable) → AllowsMap given → IsSound table → Holds Q IsSound (map_table given table)

@@ -14,11 +14,11 @@ use Rattle.lf_contexts.specs.Expansion.{find_term}
 use Rattle.lf_contexts.specs.Table.{terms_of, table_of}
 use Rattle.lf_contexts.specs.Defining.{Entry}
 use Rattle.lf_contexts.specs.TableLaws.{TermsAscend, TermsAreSound, VocabIsAbsolute, TableTermsGiveTheirIri, is_sound_term, is_term_name, is_term_iri}
-use Rattle.lf_contexts.specs.Causes.{ErrorsHaveCauses, ErrorsAreNamed, is_context_error, is_remote_error, is_local_error, is_alias_error, is_definition_error, definition_cause, value_cause, entry_cause, map_cause, context_cause, items_cause}
+use Rattle.lf_contexts.specs.Causes.{ErrorsHaveCauses, ErrorsAreNamed, is_context_error, is_remote_error, is_local_error, is_definition_error, definition_cause, value_cause, entry_cause, map_cause, context_cause, items_cause}
 use Rattle.lf_contexts.proofs.Expanding.{first_true, second_true, terms_give}
 use Rattle.lf_contexts.proofs.Holding.{Holds}
 use Rattle.lf_contexts.proofs.Sound.{IsSound}
-use Rattle.lf_contexts.proofs.TableHolding.{table-holds}
+use Rattle.lf_contexts.proofs.TableHolding.{and-false, value-none, table-holds}
 
 sound : (context : JsonValue) (table : TermTable) → table_of context ≡ Ok table → IsSound table
 sound context table e = subst (Holds (λ e. IsTrue (context_cause e context)) IsSound) e (table-holds context)
@@ -64,9 +64,8 @@ table_terms_give context table name d e found =
 -- an error of which no cause in a context speaks
 record IsUnspoken (e : LdError) : Type 0 where
   in_maps : (given : JsonMembers) → map_cause e given ≡ list_any (entry_cause e) (terms_of given)
-  in_entries : (entry : Entry) → entry_cause e entry ≡ value_cause e entry.value
-  in_definitions : (given : JsonMembers) → definition_cause e given ≡ false
-  no_alias : is_alias_error e ≡ false
+  in_entries : (entry : Entry) → entry_cause e entry ≡ (is_term_name entry.name && value_cause e entry.name entry.value)
+  in_definitions : (name : List ℕ) (given : JsonMembers) → definition_cause e name given ≡ false
   no_definition : is_definition_error e ≡ false
   no_remote : is_remote_error e ≡ false
   no_local : is_local_error e ≡ false
@@ -75,14 +74,11 @@ any-none : (test : Entry → Bool) (terms : List Entry) → ((entry : Entry) →
 any-none test [] none = refl
 any-none test (entry ∷ rest) none = rw (none entry, any-none test rest none) refl
 
-value-none : (e : LdError) (value : JsonValue) → IsUnspoken e → value_cause e value ≡ false
-value-none e null u = refl
-value-none e (truth b) u = u.no_definition
-value-none e (whole n) u = u.no_definition
-value-none e fraction u = u.no_definition
-value-none e (text t) u = u.no_alias
-value-none e (array items) u = u.no_definition
-value-none e (object given) u = u.in_definitions given
+entry-none : (e : LdError) (entry : Entry) → IsUnspoken e → entry_cause e entry ≡ false
+entry-none e entry u =
+    u.in_entries entry
+    ∙ and-false (is_term_name entry.name) (value_cause e entry.name entry.value)
+    (value-none e entry.name entry.value (u.in_definitions entry.name) u.no_definition)
 
 mutual
   context-none : (e : LdError) (context : JsonValue) → IsUnspoken e → context_cause e context ≡ false
@@ -90,7 +86,7 @@ mutual
   context-none e (text url) u = u.no_remote
   context-none e (array items) u = items-none e items u
   context-none e (object given) u =
-      u.in_maps given ∙ any-none (entry_cause e) (terms_of given) (λ entry. u.in_entries entry ∙ value-none e entry.value u)
+      u.in_maps given ∙ any-none (entry_cause e) (terms_of given) (λ entry. entry-none e entry u)
   context-none e (truth b) u = u.no_local
   context-none e (whole n) u = u.no_local
   context-none e fraction u = u.no_local
@@ -104,14 +100,14 @@ unspoken :
 unspoken e context u h = absurd (true≢false (sym h ∙ context-none e context u))
 
 named : (e : LdError) (context : JsonValue) → IsTrue (context_cause e context) → IsTrue (is_context_error e)
-named ld.CollidingKeywords context h = unspoken ld.CollidingKeywords context (record { in_maps = λ _. refl; in_entries = λ _. refl; in_definitions = λ _. refl; no_alias = refl; no_definition = refl; no_remote = refl; no_local = refl }) h
-named ld.InvalidEmbedValue context h = unspoken ld.InvalidEmbedValue context (record { in_maps = λ _. refl; in_entries = λ _. refl; in_definitions = λ _. refl; no_alias = refl; no_definition = refl; no_remote = refl; no_local = refl }) h
-named ld.InvalidIdValue context h = unspoken ld.InvalidIdValue context (record { in_maps = λ _. refl; in_entries = λ _. refl; in_definitions = λ _. refl; no_alias = refl; no_definition = refl; no_remote = refl; no_local = refl }) h
-named ld.InvalidReverseValue context h = unspoken ld.InvalidReverseValue context (record { in_maps = λ _. refl; in_entries = λ _. refl; in_definitions = λ _. refl; no_alias = refl; no_definition = refl; no_remote = refl; no_local = refl }) h
-named ld.InvalidFrame context h = unspoken ld.InvalidFrame context (record { in_maps = λ _. refl; in_entries = λ _. refl; in_definitions = λ _. refl; no_alias = refl; no_definition = refl; no_remote = refl; no_local = refl }) h
-named ld.InvalidTypeValue context h = unspoken ld.InvalidTypeValue context (record { in_maps = λ _. refl; in_entries = λ _. refl; in_definitions = λ _. refl; no_alias = refl; no_definition = refl; no_remote = refl; no_local = refl }) h
-named ld.InvalidValueObject context h = unspoken ld.InvalidValueObject context (record { in_maps = λ _. refl; in_entries = λ _. refl; in_definitions = λ _. refl; no_alias = refl; no_definition = refl; no_remote = refl; no_local = refl }) h
-named ld.IriConfusedWithPrefix context h = unspoken ld.IriConfusedWithPrefix context (record { in_maps = λ _. refl; in_entries = λ _. refl; in_definitions = λ _. refl; no_alias = refl; no_definition = refl; no_remote = refl; no_local = refl }) h
+named ld.CollidingKeywords context h = unspoken ld.CollidingKeywords context (record { in_maps = λ _. refl; in_entries = λ _. refl; in_definitions = λ _ _. refl; no_definition = refl; no_remote = refl; no_local = refl }) h
+named ld.InvalidEmbedValue context h = unspoken ld.InvalidEmbedValue context (record { in_maps = λ _. refl; in_entries = λ _. refl; in_definitions = λ _ _. refl; no_definition = refl; no_remote = refl; no_local = refl }) h
+named ld.InvalidIdValue context h = unspoken ld.InvalidIdValue context (record { in_maps = λ _. refl; in_entries = λ _. refl; in_definitions = λ _ _. refl; no_definition = refl; no_remote = refl; no_local = refl }) h
+named ld.InvalidReverseValue context h = unspoken ld.InvalidReverseValue context (record { in_maps = λ _. refl; in_entries = λ _. refl; in_definitions = λ _ _. refl; no_definition = refl; no_remote = refl; no_local = refl }) h
+named ld.InvalidFrame context h = unspoken ld.InvalidFrame context (record { in_maps = λ _. refl; in_entries = λ _. refl; in_definitions = λ _ _. refl; no_definition = refl; no_remote = refl; no_local = refl }) h
+named ld.InvalidTypeValue context h = unspoken ld.InvalidTypeValue context (record { in_maps = λ _. refl; in_entries = λ _. refl; in_definitions = λ _ _. refl; no_definition = refl; no_remote = refl; no_local = refl }) h
+named ld.InvalidValueObject context h = unspoken ld.InvalidValueObject context (record { in_maps = λ _. refl; in_entries = λ _. refl; in_definitions = λ _ _. refl; no_definition = refl; no_remote = refl; no_local = refl }) h
+named ld.IriConfusedWithPrefix context h = unspoken ld.IriConfusedWithPrefix context (record { in_maps = λ _. refl; in_entries = λ _. refl; in_definitions = λ _ _. refl; no_definition = refl; no_remote = refl; no_local = refl }) h
 named _ context h = refl
 
 pub errors_are_named : ErrorsAreNamed

@@ -1,19 +1,13 @@
 -- Laws of frames.
-use Rattle.std.specs.Prelude.{◌≡◌, List, ℕ, Bool, true, false, ◌&&◌, ◌||◌, Option, Ok, Err, IsTrue, codes, Some}
+use Rattle.std.specs.Prelude.{◌≡◌, List, ℕ, Bool, true, false, ◌&&◌, Ok, Err, IsTrue, codes, Some}
 use Rattle.std.specs.Ordering.{is_lt, nat_cmp}
 use Rattle.std.specs.Cmp.Lexicographic.{slice_cmp}
-use Rattle.lf_rdf.specs.Equality.{text_eq}
-use Rattle.lf_model.specs.declared.table.TermTable.{TermTable}
-use Rattle.lf_model.specs.declared.table.TermDef.{TermDef}
 use Rattle.lf_model.specs.declared.error.LdError.{LdError}
 use Rattle.lf_model.specs.declared.error.LdError.TheVariants as ld
-use Rattle.lf_model.specs.JsonData.{JsonValue, JsonItems, JsonMembers, null, truth, whole, fraction, text, array, object, no_items, item, no_members, member}
+use Rattle.lf_model.specs.JsonData.{JsonValue, JsonMembers, array, object, no_items, item}
 use Rattle.lf_nested.specs.Nested.{Nested, Props, Reverses, Within, Kind, match_none, frame_map, no_props, prop, no_reverses, reverse_prop, no_graph, in_graph, wild, node_frame, value_pattern, list_pattern, list_pattern_of}
 use Rattle.lf_contexts.specs.Members.{value_of}
 use Rattle.lf_contexts.specs.Table.{table_of}
-use Rattle.lf_contexts.specs.GivenValues.{Coercion, to_id, to_vocab, to_datatype, uncoerced, coercion_of}
-use Rattle.lf_contexts.specs.FrameKeys.{Meaning, keyword, property, reverse_property, meaning_of}
-use Rattle.lf_contexts.specs.SubFrames.{top_frame}
 use Rattle.lf_contexts.specs.Frames.{FrameMeaning, frame_of}
 
 -- an IRI stands before all properties that follow
@@ -76,59 +70,6 @@ FramesAreSound = (frame : JsonValue) (f : FrameMeaning) → frame_of frame ≡ O
 -- the terms of a frame are those of its context
 abbrev pub FrameTermsAreItsContexts : Type 0
 FrameTermsAreItsContexts = (frame : JsonValue) (f : FrameMeaning) → frame_of frame ≡ Ok f → table_of f.context ≡ Ok f.table
-
-abbrev pub makes_reference : Coercion → Bool
-makes_reference to_id = true
-makes_reference to_vocab = true
-makes_reference (to_datatype iri) = false
-makes_reference uncoerced = false
-
--- whether a text under a term is a reference
-abbrev pub refers : Option TermDef → Bool
-refers term = makes_reference (coercion_of term)
-
--- what a key must be for an error of frames to come from its map
-abbrev pub speaks : LdError → Meaning → Bool
-speaks ld.CollidingKeywords (keyword name) = true
-speaks ld.InvalidEmbedValue (keyword name) = text_eq name (codes "@embed")
-speaks ld.InvalidTypeValue (keyword name) = text_eq name (codes "@type")
-speaks ld.InvalidIdValue (keyword name) = text_eq name (codes "@id")
-speaks ld.InvalidIdValue (property iri term) = refers term
-speaks ld.InvalidReverseValue (keyword name) = text_eq name (codes "@reverse")
-speaks ld.InvalidReverseValue (reverse_property iri) = true
-speaks ld.InvalidValueObject (keyword name) = text_eq name (codes "@value") || text_eq name (codes "@language")
-speaks _ _ = false
-
--- whether a map within a value has such a key
-abbrev mutual
-  pub value_speaks : LdError → TermTable → JsonValue → Bool
-  value_speaks e table (array items) = items_speak e table items
-  value_speaks e table (object members) = members_speak e table members
-  value_speaks e table null = false
-  value_speaks e table (truth b) = false
-  value_speaks e table (whole n) = false
-  value_speaks e table fraction = false
-  value_speaks e table (text t) = false
-
-  pub items_speak : LdError → TermTable → JsonItems → Bool
-  items_speak e table no_items = false
-  items_speak e table (item value rest) = value_speaks e table value || items_speak e table rest
-
-  pub members_speak : LdError → TermTable → JsonMembers → Bool
-  members_speak e table no_members = false
-  members_speak e table (member key value rest) =
-      speaks e (meaning_of table key) || value_speaks e table value || members_speak e table rest
-
--- `invalid frame` needs no key; each other error needs one that speaks of it
-abbrev pub top_cause : LdError → TermTable → JsonMembers → Bool
-top_cause ld.InvalidFrame _ _ = true
-top_cause e table members = members_speak e table members
-
--- an error of a top map comes only where a key in it speaks of it
-abbrev pub FrameErrorsHaveCauses : Type 0
-FrameErrorsHaveCauses =
-    (table : TermTable) (members : JsonMembers) (e : LdError) → top_frame table members ≡ Err e →
-    IsTrue (top_cause e table members)
 
 -- the error that comes from compaction alone
 abbrev pub is_frame_error : LdError → Bool

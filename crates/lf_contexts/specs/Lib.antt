@@ -28,6 +28,7 @@ pub mod MapReading
 pub mod SubFrames
 pub mod Frames
 pub mod FrameLaws
+pub mod FrameCauses
 pub mod CaseWords
 pub mod ContextErrorCases
 pub mod FrameCases

@@ -1,11 +1,12 @@
 -- Laws of term tables.
-use Rattle.std.specs.Prelude.{◌≡◌, List, [], ◌∷◌, ℕ, Bool, true, not, ◌&&◌, ◌||◌, Option, Some, None, Ok, IsTrue}
+use Rattle.std.specs.Prelude.{◌≡◌, List, [], ◌∷◌, ℕ, Bool, true, not, ◌&&◌, ◌||◌, Option, Some, None, Ok, IsTrue, codes}
 use Rattle.std.specs.List.{list_all}
 use Rattle.std.specs.Ordering.{is_lt, nat_cmp}
 use Rattle.std.specs.Cmp.Lexicographic.{slice_cmp}
 use Rattle.lf_model.specs.declared.table.TermTable.{TermTable}
 use Rattle.lf_model.specs.declared.table.TermDef.{TermDef}
 use Rattle.lf_model.specs.JsonData.{JsonValue}
+use Rattle.lf_rdf.specs.Equality.{text_eq}
 use Rattle.lf_contexts.specs.Keywords.{is_keyword, has_keyword_form}
 use Rattle.lf_contexts.specs.Texts.{is_absolute, is_empty}
 use Rattle.lf_contexts.specs.Expansion.{find_term, expand}
@@ -24,10 +25,10 @@ ascends (d ∷ rest) = list_all (is_before d) rest && ascends rest
 abbrev pub is_term_name : List ℕ → Bool
 is_term_name name = not (is_empty name) && not (is_keyword name) && not (has_keyword_form name)
 
--- an IRI of a term: none, a keyword or an absolute IRI
+-- an IRI of a term: none, a keyword other than `@context`, or an absolute IRI
 abbrev pub is_term_iri : Option (List ℕ) → Bool
 is_term_iri None = true
-is_term_iri (Some iri) = is_keyword iri || is_absolute iri
+is_term_iri (Some iri) = (is_keyword iri && not (text_eq iri (codes "@context"))) || is_absolute iri
 
 abbrev pub is_sound_term : TermDef → Bool
 is_sound_term d = is_term_name d.name && is_term_iri d.iri
@@ -40,7 +41,7 @@ is_absolute_or_none (Some iri) = is_absolute iri
 abbrev pub TermsAscend : Type 0
 TermsAscend = (context : JsonValue) (table : TermTable) → table_of context ≡ Ok table → IsTrue (ascends table.terms)
 
--- the terms of a table have names that are no keywords, and stand for keywords, absolute IRIs or nothing
+-- the terms of a table have names that are no keywords, and stand for keywords other than `@context`, absolute IRIs or nothing
 abbrev pub TermsAreSound : Type 0
 TermsAreSound =
     (context : JsonValue) (table : TermTable) → table_of context ≡ Ok table →

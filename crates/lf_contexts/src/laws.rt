@@ -2,7 +2,8 @@ ghost use Rattle.lf_contexts.specs.ExpansionLaws.{KeywordsStay, TermsGiveTheirIr
 ghost use Rattle.lf_contexts.specs.TableLaws.{TermsAscend, TermsAreSound, VocabIsAbsolute, TableTermsGiveTheirIri};
 ghost use Rattle.lf_contexts.specs.Circles.{CyclesAreCircles};
 ghost use Rattle.lf_contexts.specs.RoomLaws.{RoomIsEnough};
-ghost use Rattle.lf_contexts.specs.FrameLaws.{FramesAreSound, FrameTermsAreItsContexts, FrameErrorsHaveCauses, FrameErrorsAreNamed, OneMapInAnArray, ContextErrorsComeFirst};
+ghost use Rattle.lf_contexts.specs.FrameLaws.{FramesAreSound, FrameTermsAreItsContexts, FrameErrorsAreNamed, OneMapInAnArray, ContextErrorsComeFirst};
+ghost use Rattle.lf_contexts.specs.FrameCauses.{FrameErrorsHaveCauses};
 ghost use Rattle.lf_contexts.specs.Causes.{ErrorsHaveCauses, ErrorsAreNamed};
 
 /// A keyword expands to itself.
@@ -25,7 +26,7 @@ pub fn terms_ascend()
     ensures { TermsAscend }
 {}
 
-/// The terms of a context's table are no keywords, and stand for keywords, absolute IRIs or nothing.
+/// The terms of a context's table are no keywords, and stand for keywords other than `@context`, absolute IRIs or nothing.
 pub fn terms_are_sound()
     ensures { TermsAreSound }
 {}
@@ -65,7 +66,7 @@ pub fn frame_terms_are_its_contexts()
     ensures { FrameTermsAreItsContexts }
 {}
 
-/// An error of a frame other than `invalid frame` comes only where a key in it speaks of it.
+/// An error comes from the map of a frame only where a key in it, or in a map within it, speaks of it.
 pub fn frame_errors_have_causes()
     ensures { FrameErrorsHaveCauses }
 {}

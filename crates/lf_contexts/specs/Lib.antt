@@ -31,5 +31,8 @@ pub mod FrameLaws
 pub mod FrameCauses
 pub mod CaseWords
 pub mod ContextErrorCases
+pub mod ContextEdges
 pub mod FrameCases
 pub mod FrameErrorCases
+pub mod FrameEdges
+pub mod PatternEdges

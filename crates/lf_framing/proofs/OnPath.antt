@@ -1,16 +1,17 @@
 -- What is on the path is never embedded again.
-use Rattle.std.proofs.Common.{◌≡◌, zero, suc, Bool, true, false, not, List, [], ◌∷◌, ◌&&◌, ◌||◌, refl, ap}
+use Rattle.std.proofs.Common.{◌≡◌, ℕ, zero, suc, Bool, true, false, not, List, [], ◌∷◌, ◌&&◌, ◌||◌, refl, ap}
 use Rattle.std.specs.List.{list_any}
 use Rattle.lf_rdf.specs.declared.term.Term.{Term}
+use Rattle.lf_rdf.specs.declared.question.GraphRef.{GraphRef}
 use Rattle.lf_rdf.specs.declared.question.GraphRef.TheVariants.{Named}
 use Rattle.lf_model.specs.declared.frame.Embed.{Embed}
 use Rattle.lf_model.specs.declared.frame.Embed.TheVariants.{Once, Always, Never}
-use Rattle.lf_nested.specs.Nested.{flags_of, within_of}
-use Rattle.lf_framing.specs.Views.{Place, graph_eq}
+use Rattle.lf_nested.specs.Nested.{Nested, flags_of, within_of}
+use Rattle.lf_framing.specs.Views.{Views, Place, graph_eq}
 use Rattle.lf_framing.specs.Results.{State, choose, is_in}
 use Rattle.lf_framing.specs.Steps.{as_reference, is_outside, has_graph, is_merged}
 use Rattle.lf_framing.specs.Embedding.{embed, refer, no_room, inside}
-use Rattle.lf_framing.specs.Laws.{PathIsLeftAlone, EnteredGraphIsNew}
+use Rattle.lf_framing.specs.Laws.{PathIsLeftAlone, OnceIsOnce, NeverIsNever, EnteredGraphIsNew}
 use Rattle.lf_framing.proofs.Bools.{and_first, and_second, not_true, or_first, or_second}
 
 -- whatever its flag says, a node on the path is a reference
@@ -21,14 +22,40 @@ on_path Never here path state there = refl
 on_path Always here path state there = there
 on_path Once here path state there = rw there refl
 
-pub path_left_alone : PathIsLeftAlone
+-- whether it may be embedded or not, what is output as a reference is
+referred :
+    (views : Views) (room : ℕ) (graph : GraphRef) (id : Term) (form : Nested) (path : List Place) (state : State) →
+    as_reference (flags_of form).embed (record { graph = graph; id = id }) path state ≡ true →
+    embed views room graph id form false path state ≡ refer id state
 unfolding embed
-path_left_alone views zero graph id form path state there =
-    ap (λ test. choose test (refer id) (no_room graph id form path) state)
+referred views zero graph id form path state refers =
+    ap (λ test. choose test (refer id) (no_room graph id form path) state) refers
+referred views (suc room) graph id form path state refers =
+    ap (λ test. choose test (refer id) (inside views (embed views room) graph id form path) state) refers
+
+pub path_left_alone : PathIsLeftAlone
+path_left_alone views room graph id form path state there =
+    referred views room graph id form path state
     (on_path (flags_of form).embed (record { graph = graph; id = id }) path state there)
-path_left_alone views (suc room) graph id form path state there =
-    ap (λ test. choose test (refer id) (inside views (embed views room) graph id form path) state)
-    (on_path (flags_of form).embed (record { graph = graph; id = id }) path state there)
+
+-- a node that was embedded is a reference by `@once`
+once_referred :
+    (flag : Embed) (here : Place) (path : List Place) (state : State) → flag ≡ Once → is_in state.embedded here ≡ true →
+    as_reference flag here path state ≡ true
+once_referred flag here path state once there = rw once (either (is_in path here))
+  where
+    either : (b : Bool) → (b || is_in state.embedded here) ≡ true
+    either true = refl
+    either false = there
+
+pub once_once : OnceIsOnce
+once_once views room graph id form path state once there =
+    referred views room graph id form path state
+    (once_referred (flags_of form).embed (record { graph = graph; id = id }) path state once there)
+
+pub never_never : NeverIsNever
+never_never views room graph id form path state never =
+    referred views room graph id form path state (rw never refl)
 
 -- where no step lies in a graph, no node of it is on the path
 pub none_within :

@@ -6,9 +6,10 @@ use Rattle.lf_rdf.specs.declared.question.GraphRef.TheVariants.{Named}
 use Rattle.lf_model.specs.ValueData.{ListValue, ListValues, literal, reference, list}
 use Rattle.lf_model.specs.TreeData.{TreeNode}
 use Rattle.lf_model.specs.declared.document.Limit.TheVariants.{Depth}
+use Rattle.lf_model.specs.declared.frame.Embed.TheVariants.{Once, Never}
 use Rattle.lf_model.specs.declared.frame.IdTest.TheVariants as id_test
 use Rattle.lf_model.specs.declared.frame.TypeTest.TheVariants as type_test
-use Rattle.lf_nested.specs.Nested.{Flags, Nested, Props, Reverses, Within, Kind, match_none, frame_map, no_props, prop, wild, node_frame}
+use Rattle.lf_nested.specs.Nested.{Flags, Nested, Props, Reverses, Within, Kind, match_none, frame_map, no_props, prop, wild, node_frame, flags_of}
 use Rattle.lf_framing.specs.Views.{Views, Place, values_under}
 use Rattle.lf_framing.specs.Matching.{accepts, matches, is_empty}
 use Rattle.lf_framing.specs.Results.{State, gives, over, is_in, item_limit}
@@ -67,6 +68,19 @@ PathIsLeftAlone =
     (views : Views) (room : ℕ) (graph : GraphRef) (id : Term) (form : Nested) (path : List Place) (state : State) →
     is_in path (record { graph = graph; id = id }) ≡ true →
     embed views room graph id form false path state ≡ refer id state
+
+-- with `@once` a node that this tree has embedded is output as a reference, unless it is embedded free
+abbrev pub OnceIsOnce : Type 0
+OnceIsOnce =
+    (views : Views) (room : ℕ) (graph : GraphRef) (id : Term) (form : Nested) (path : List Place) (state : State) →
+    (flags_of form).embed ≡ Once → is_in state.embedded (record { graph = graph; id = id }) ≡ true →
+    embed views room graph id form false path state ≡ refer id state
+
+-- with `@never` every node is, unless it is embedded free
+abbrev pub NeverIsNever : Type 0
+NeverIsNever =
+    (views : Views) (room : ℕ) (graph : GraphRef) (id : Term) (form : Nested) (path : List Place) (state : State) →
+    (flags_of form).embed ≡ Never → embed views room graph id form false path state ≡ refer id state
 
 -- nodes are embedded free at the top and in a graph that is entered, and no node of such a graph is on the path
 abbrev pub EnteredGraphIsNew : Type 0

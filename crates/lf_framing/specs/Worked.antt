@@ -8,3 +8,4 @@ pub mod Patterns
 pub mod FlagCases
 pub mod Limits
 pub mod Chains
+pub mod Edges

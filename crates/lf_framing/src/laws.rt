@@ -1,4 +1,4 @@
-ghost use Rattle.lf_framing.specs.Laws.{WildAcceptsAll, NodeFrameAcceptsMatches, EmptyMatchesKeys, MatchedIsKey, PathIsLeftAlone, EnteredGraphIsNew, CountsItsItems, TreeIsWithinLimit, RoomIsEnough, PresentIsRefused, TreeIsWithinDepth, SameViewsSameTree};
+ghost use Rattle.lf_framing.specs.Laws.{WildAcceptsAll, NodeFrameAcceptsMatches, EmptyMatchesKeys, MatchedIsKey, PathIsLeftAlone, OnceIsOnce, NeverIsNever, EnteredGraphIsNew, CountsItsItems, TreeIsWithinLimit, RoomIsEnough, PresentIsRefused, TreeIsWithinDepth, SameViewsSameTree};
 
 /// A wildcard accepts every value.
 pub fn wild_accepts_all()
@@ -23,6 +23,16 @@ pub fn matched_is_key()
 /// A node on the path is output as a reference, unless it is embedded free.
 pub fn path_is_left_alone()
     ensures { PathIsLeftAlone }
+{}
+
+/// With `@once` a node that the tree has embedded is output as a reference, unless it is embedded free.
+pub fn once_is_once()
+    ensures { OnceIsOnce }
+{}
+
+/// With `@never` every node is output as a reference, unless it is embedded free.
+pub fn never_is_never()
+    ensures { NeverIsNever }
 {}
 
 /// No node of a graph that is entered is on the path, so that none is embedded again free.

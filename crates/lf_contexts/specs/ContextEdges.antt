@@ -3,6 +3,7 @@ use Rattle.std.specs.Prelude.{◌≡◌, refl, [], ◌∷◌, pos, true, false, 
 use Rattle.lf_model.specs.declared.table.Container.TheVariants.{LanguageSet}
 use Rattle.lf_model.specs.declared.error.LdError.TheVariants as ld
 use Rattle.lf_model.specs.JsonData.{null, truth, whole, text}
+use Rattle.lf_contexts.specs.Expansion.{expand}
 use Rattle.lf_contexts.specs.Table.{empty_table, table_of}
 use Rattle.lf_contexts.specs.CaseWords.{contexts_open, map_of, list_of, plain_term, table_with}
 
@@ -270,3 +271,16 @@ older_prefix = refl
 pub older_gone : table_of (list_of (map_of ((codes "a", text (codes "http://e/")) ∷ []) ∷ map_of ((codes "a", text (codes "a:x")) ∷ []) ∷ [])) ≡ Err ld.CyclicIriMapping
 unfolding contexts_open
 older_gone = refl
+
+-- a text is cut at its first `:`, a scheme has digits, `+`, `.` and `-`, and an alias of a keyword is one everywhere
+pub cut_at_first : expand (table_with (record (plain_term (codes "p") (codes "http://e/")) { prefix = true } ∷ [])) (codes "p:x:y") true ≡ Some (codes "http://e/x:y")
+unfolding contexts_open
+cut_at_first = refl
+
+pub scheme_kept : expand empty_table (codes "a1+b.c-d:x") true ≡ Some (codes "a1+b.c-d:x")
+unfolding contexts_open
+scheme_kept = refl
+
+pub alias_everywhere : expand (table_with (plain_term (codes "i") (codes "@id") ∷ [])) (codes "i") false ≡ Some (codes "@id")
+unfolding contexts_open
+alias_everywhere = refl

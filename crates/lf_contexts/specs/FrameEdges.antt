@@ -11,7 +11,7 @@ use Rattle.lf_model.specs.JsonData.{null, truth, whole, text}
 use Rattle.lf_nested.specs.Nested.{match_none, frame_map, no_props, prop, no_reverses, no_graph, in_graph, node_frame, value_pattern, plain, wildcard}
 use Rattle.lf_contexts.specs.Table.{empty_table}
 use Rattle.lf_contexts.specs.Frames.{frame_of}
-use Rattle.lf_contexts.specs.CaseWords.{frames_open, map_of, list_of}
+use Rattle.lf_contexts.specs.CaseWords.{frames_open, map_of, list_of, plain_term, table_with}
 use Rattle.lf_contexts.specs.FrameCases.{meant, of_props}
 
 -- {"@graph":[{},{}]}
@@ -33,6 +33,11 @@ context_in_graph_refused = refl
 pub dropped_beside_graph : frame_of (map_of ((codes "@graph", map_of []) ∷ (codes "x", whole (pos 5)) ∷ [])) ≡ Ok (record { nested = frame_map plain no_props no_reverses (in_graph (wildcard plain)) node_frame; table = empty_table; context = null; top_graph = true })
 unfolding frames_open
 dropped_beside_graph = refl
+
+-- {"@context":{"g":"@graph"},"g":[]}
+pub graph_by_alias : frame_of (map_of ((codes "@context", map_of ((codes "g", text (codes "@graph")) ∷ [])) ∷ (codes "g", list_of []) ∷ [])) ≡ Ok (record { nested = wildcard plain; table = table_with (plain_term (codes "g") (codes "@graph") ∷ []); context = map_of ((codes "g", text (codes "@graph")) ∷ []); top_graph = true })
+unfolding frames_open
+graph_by_alias = refl
 
 -- {"@id":[{}]}
 pub id_any : frame_of (map_of ((codes "@id", list_of (map_of [] ∷ [])) ∷ [])) ≡ Ok (meant (of_props (record plain { ids = id_test.Any }) no_props))
@@ -68,6 +73,11 @@ type_default_refused = refl
 pub relative_type_refused : frame_of (map_of ((codes "@type", text (codes "T")) ∷ [])) ≡ Err ld.InvalidTypeValue
 unfolding frames_open
 relative_type_refused = refl
+
+-- {"@context":{"d":"@default"},"@type":{"d":"http://e/T"}}: no alias stands there
+pub type_default_alias_refused : frame_of (map_of ((codes "@context", map_of ((codes "d", text (codes "@default")) ∷ [])) ∷ (codes "@type", map_of ((codes "d", text (codes "http://e/T")) ∷ [])) ∷ [])) ≡ Err ld.InvalidTypeValue
+unfolding frames_open
+type_default_alias_refused = refl
 
 -- {"@embed":["@always"],"@explicit":[true],"@omitDefault":false,"@requireAll":true}: flags alone are wild
 pub flags_read : frame_of (map_of ((codes "@embed", list_of (text (codes "@always") ∷ [])) ∷ (codes "@explicit", list_of (truth true ∷ [])) ∷ (codes "@omitDefault", truth false) ∷ (codes "@requireAll", truth true) ∷ [])) ≡ Ok (meant (wildcard (record plain { embed = embed_flag.Always; explicit = true; omit_default = Some false; require_all = true })))

@@ -51,6 +51,11 @@ pub set_in_pattern_refused : frame_of (map_of ((codes "http://e/p", map_of ((cod
 unfolding frames_open
 set_in_pattern_refused = refl
 
+-- {"http://e/p":{"@list":[],"@value":"x"}}: it is no list pattern
+pub list_in_pattern_refused : frame_of (map_of ((codes "http://e/p", map_of ((codes "@list", list_of []) ∷ (codes "@value", text (codes "x")) ∷ [])) ∷ [])) ≡ Err ld.InvalidValueObject
+unfolding frames_open
+list_in_pattern_refused = refl
+
 -- {"http://e/p":{"@list":[]}}
 pub list_without_item : frame_of (map_of ((codes "http://e/p", map_of ((codes "@list", list_of []) ∷ [])) ∷ [])) ≡ Ok (meant (of_props plain (prop (codes "http://e/p") (frame_map plain no_props no_reverses no_graph list_pattern) no_props)))
 unfolding frames_open
@@ -110,6 +115,11 @@ default_id_refused = refl
 pub default_both_refused : frame_of (map_of ((codes "http://e/p", map_of ((codes "@default", map_of ((codes "@language", text (codes "en")) ∷ (codes "@type", text (codes "http://e/T")) ∷ (codes "@value", text (codes "x")) ∷ [])) ∷ [])) ∷ [])) ≡ Err ld.InvalidFrame
 unfolding frames_open
 default_both_refused = refl
+
+-- {"@context":{"i":"@id"},"http://e/p":{"@default":{"i":"http://e/x"}}}: no alias stands there
+pub default_alias_refused : frame_of (map_of ((codes "@context", map_of ((codes "i", text (codes "@id")) ∷ [])) ∷ (codes "http://e/p", map_of ((codes "@default", map_of ((codes "i", text (codes "http://e/x")) ∷ [])) ∷ [])) ∷ [])) ≡ Err ld.InvalidFrame
+unfolding frames_open
+default_alias_refused = refl
 
 -- {"@context":{"r":{"@id":"http://e/r","@type":"@id"}},"r":"x"}
 pub coerced_refused : frame_of (map_of ((codes "@context", map_of ((codes "r", map_of ((codes "@id", text (codes "http://e/r")) ∷ (codes "@type", text (codes "@id")) ∷ [])) ∷ [])) ∷ (codes "r", text (codes "x")) ∷ [])) ≡ Err ld.InvalidIdValue

@@ -114,12 +114,39 @@ compact-back table iri text ordinary plain c =
     ∙ go (begins_authority rest) refl after
   where
     go : (b : Bool) → begins_authority c.rest ≡ b → after_colon text ≡ c.rest → by_split table text (cond b as_is (split c.term.name c.rest)) ≡ Some iri
-    go true at after' = ap Some (plain.no_authority (ap begins_authority after' ∙ at))
+    go true at after' = ap Some (plain.no_authority c (ap begins_authority after' ∙ at))
     go false at after' =
         ap (λ o. option_or (by_prefix o c.rest) (if_absolute text)) (ordinary.found c.term c.listed)
         ∙ ap (λ b. option_or (cond b (followed_by c.term.iri c.rest) None) (if_absolute text)) c.may_prefix
         ∙ ap (λ o. option_or (followed_by o c.rest) (if_absolute text)) c.has_iri
         ∙ ap Some c.whole
+
+-- a text with a colon hasn't the form of a keyword, and neither has an absolute IRI
+no_and : (b : Bool) → (b && false) ≡ false
+no_and true = refl
+no_and false = refl
+
+colon-letters : (name rest : List ℕ) → list_all is_letter (name ++ 58 ∷ rest) ≡ false
+colon-letters [] rest = refl
+colon-letters (b ∷ more) rest = ap (λ c. is_letter b && c) (colon-letters more rest) ∙ no_and (is_letter b)
+
+colon-form : (name rest : List ℕ) → name ≢ [] → has_keyword_form (name ++ 58 ∷ rest) ≡ false
+unfolding has_keyword_form
+colon-form [] rest some = absurd (some refl)
+colon-form (b ∷ []) rest some = ap (λ c. nat_eq b 64 && c) (colon-letters [] rest) ∙ no_and (nat_eq b 64)
+colon-form (b ∷ c ∷ more) rest some = ap (λ d. nat_eq b 64 && d) (colon-letters (c ∷ more) rest) ∙ no_and (nat_eq b 64)
+
+no_letter : is_letter 64 ≡ false
+no_letter = refl
+
+absolute-form : (iri : List ℕ) → is_absolute iri ≡ true → has_keyword_form iri ≡ false
+unfolding is_absolute has_keyword_form
+absolute-form [] e = refl
+absolute-form (b ∷ []) e = refl
+absolute-form (b ∷ c ∷ rest) e =
+    let letter = (and_parts (is_letter b) (ends_scheme (c ∷ rest)) e).0 in
+    ap (λ d. d && list_all is_letter (c ∷ rest))
+    (false_from_ne_true (nat_eq b 64) (λ same. both_ways (is_letter 64) no_letter (subst (λ n. is_letter n ≡ true) (eqb-true b 64 same) letter)))
 
 -- an absolute IRI has a later colon
 scheme-later : (xs : List ℕ) → ends_scheme xs ≡ true → has_byte 58 xs ≡ true
@@ -184,20 +211,26 @@ rest-back table iri text plain r =
 
 pub gives-back : (table : TermTable) (iri : List ℕ) (vocab : Bool) (pick : Pick) (text : List ℕ) → IsOrdinary table → is_absolute iri ≡ true
     → short table iri vocab pick ≡ Some text → IsPlain table iri text → expand table text vocab ≡ Some iri
-gives-back table iri vocab pick text ordinary absolute e plain =
-    expand-plain table text vocab plain.no_keyword ∙ go (short-steps table iri vocab pick text e)
+gives-back table iri vocab pick text ordinary absolute e plain = go (short-steps table iri vocab pick text e)
   where
-    either : behind table text vocab ≡ iri → unwrap_or (by_term vocab (find_term text table.terms)) (Some (behind table text vocab)) ≡ Some iri
-    either same = by-either vocab iri (find_term text table.terms) (behind table text vocab) plain.own_term same
+    either : has_keyword_form text ≡ false → ((term : TermDef) → find_term text table.terms ≡ Some term → term.iri ≡ Some iri) → behind table text vocab ≡ iri → expand table text vocab ≡ Some iri
+    either form own same =
+        expand-plain table text vocab form ∙ by-either vocab iri (find_term text table.terms) (behind table text vocab) own same
 
     go : ((vocab ≡ true) × (IsTermFor table iri text ⊎ IsRestFor table iri text)) ⊎ (IsCompactFor table iri text ⊎ ((is_confused table iri ≡ false) × (text ≡ iri)))
-        → unwrap_or (by_term vocab (find_term text table.terms)) (Some (behind table text vocab)) ≡ Some iri
+        → expand table text vocab ≡ Some iri
     go (inl (on, inl named)) =
-        ap (λ v. unwrap_or (by_term v (find_term text table.terms)) (Some (behind table text vocab))) on
+        expand-plain table text vocab (ap has_keyword_form (sym named.name) ∙ ordinary.no_form named.term named.listed)
+        ∙ ap (λ v. unwrap_or (by_term v (find_term text table.terms)) (Some (behind table text vocab))) on
         ∙ ap (λ o. unwrap_or (by_term true o) (Some (behind table text vocab)))
         (ap (λ n. find_term n table.terms) (sym named.name) ∙ ordinary.found named.term named.listed)
         ∙ named.has_iri
-    go (inl (on, inr rest)) = either (ap (behind table text) on ∙ rest-back table iri text plain rest)
-    go (inr (inl compact)) = either (split-back table iri text vocab (compact-back table iri text ordinary plain compact))
+    go (inl (on, inr rest)) =
+        either (plain.no_form rest) (λ term found. absurd (cc (rest.no_term, found)))
+        (ap (behind table text) on ∙ rest-back table iri text plain rest)
+    go (inr (inl compact)) =
+        either (ap has_keyword_form (sym compact.written) ∙ colon-form compact.term.name compact.rest (ordinary.prefix_name compact.term compact.listed compact.may_prefix))
+        compact.own_term (split-back table iri text vocab (compact-back table iri text ordinary plain compact))
     go (inr (inr (clear, same))) =
-        either (split-back table iri text vocab (subst (λ t. by_split table t (split_of t) ≡ Some iri) (sym same) (itself-back table iri absolute clear)))
+        either (ap has_keyword_form same ∙ absolute-form iri absolute) (plain.own_term same)
+        (split-back table iri text vocab (subst (λ t. by_split table t (split_of t) ≡ Some iri) (sym same) (itself-back table iri absolute clear)))

@@ -1,9 +1,9 @@
 -- What a compacted IRI tells, and when there is none.
-use Rattle.std.proofs.Common.{◌≡◌, ℕ, Bool, true, false, not, ◌&&◌, ◌||◌, List, [], ◌∷◌, ◌++◌, length, take, drop, Option, Some, None, cond, refl, sym, ap, ◌∙◌, ◌⊎◌, inl, inr, nat_eq, nat_lt, is_some}
+use Rattle.std.proofs.Common.{◌≡◌, ℕ, Bool, true, false, not, ◌&&◌, ◌||◌, List, [], ◌∷◌, ◌++◌, length, take, drop, Option, Some, None, cond, refl, sym, ap, subst, ◌∙◌, ◌⊎◌, inl, inr, nat_eq, nat_lt, is_some}
 use Rattle.std.specs.List.{Contains, list_any, filter, filter_map, cons_option, starts_with}
 use Rattle.std.specs.Option.{option_map, option_or}
 use Rattle.std.specs.Cmp.Lexicographic.{bytes_decides}
-use Rattle.std.proofs.lemmas.Bool.{and_parts, eqb-true, not-true}
+use Rattle.std.proofs.lemmas.Bool.{and_parts, eqb-true, not-true, or_parts}
 use Rattle.std.proofs.lemmas.List.{take-append-drop}
 use Rattle.lf_rdf.specs.Equality.{text_eq}
 use Rattle.lf_model.specs.declared.table.TermTable.{TermTable}
@@ -11,12 +11,12 @@ use Rattle.lf_model.specs.declared.table.TermDef.{TermDef}
 use Rattle.lf_contexts.specs.Keywords.{is_keyword}
 use Rattle.lf_contexts.specs.Texts.{after_colon, before_colon, begins_authority, ends_scheme, is_absolute, is_letter, is_scheme_byte}
 use Rattle.lf_selection.specs.declared.pick.Pick.{Pick}
-use Rattle.lf_selection.specs.Chosen.{chosen}
+use Rattle.lf_selection.specs.Chosen.{chosen, stands_for}
 use Rattle.lf_selection.specs.Iris.{short, by_vocab, by_prefix, compact_iri, is_confused, is_free, rest_after, term_named, unless_taken}
 use Rattle.lf_selection.specs.Laws.{IsTermFor, IsRestFor, IsCompactFor}
 use Rattle.lf_selection.proofs.Members.{filter_in, first_in, rest_in, in_cases, none_in, some_passes}
 use Rattle.lf_selection.proofs.Least.{least_in}
-use Rattle.lf_selection.proofs.Fits.{chosen-fits, text_eq-same}
+use Rattle.lf_selection.proofs.Fits.{chosen-fits, stands_for-same, text_eq-same}
 
 -- the first that there is
 or_cases_of : {A : Type 0} (o p : Option A) (x : A) → option_or o p ≡ Some x → (o ≡ Some x) ⊎ (p ≡ Some x)
@@ -32,9 +32,10 @@ chosen_then : {A : Type 0} (b : Bool) (o : Option A) (x : A) → cond b o None �
 chosen_then true o x e = (refl, e)
 chosen_then false o x e = cc
 
-chosen_else : {A : Type 0} (b : Bool) (o : Option A) (x : A) → cond b None o ≡ Some x → o ≡ Some x
-chosen_else true o x e = cc
-chosen_else false o x e = e
+-- a refusal or a value
+unrefused : {A : Type 0} (b : Bool) (x y : A) → cond b None (Some x) ≡ Some y → (b ≡ false) × (y ≡ x)
+unrefused true x y e = cc
+unrefused false x y e = (refl, cc)
 
 mapped : {A B : Type 0} (f : A → B) (o : Option A) (y : B) → option_map f o ≡ Some y → (x : A) × (o ≡ Some x) × (f x ≡ y)
 mapped f None y e = cc
@@ -50,9 +51,28 @@ rest-whole text (Some start) rest e =
     let back : drop (length start) text ≡ rest = cc (given.1) in
     (start, refl, (λ i. front i ++ sym back i) ∙ take-append-drop (length start) text)
 
-untaken : (table : TermTable) (o : Option (List ℕ)) (rest : List ℕ) → unless_taken table o ≡ Some rest → o ≡ Some rest
+-- there is none where none is told
+is_none : {A : Type 0} (o : Option A) → is_some o ≡ false → o ≡ None
+is_none None e = refl
+is_none (Some x) e = cc
+
+untaken : (table : TermTable) (o : Option (List ℕ)) (rest : List ℕ) → unless_taken table o ≡ Some rest
+    → (o ≡ Some rest) × (term_named table rest ≡ None) × (is_keyword rest ≡ false)
 untaken table None rest e = cc
-untaken table (Some other) rest e = chosen_else (is_some (term_named table other) || is_keyword other) (Some other) rest e
+untaken table (Some other) rest e =
+    let (free, same) = unrefused (is_some (term_named table other) || is_keyword other) other rest e in
+    let both = or_parts (is_some (term_named table other)) (is_keyword other) free in (
+      ap Some (sym same),
+      ap (term_named table) same ∙ is_none (term_named table other) both.0,
+      ap is_keyword same ∙ both.1,
+    )
+
+-- a compact IRI that is free is the name of no term of another IRI
+free-own : (iri : List ℕ) (has_value : Bool) (o : Option TermDef) → is_free iri has_value o ≡ true → (named : TermDef) → o ≡ Some named → named.iri ≡ Some iri
+free-own iri has_value None free named e = cc
+free-own iri has_value (Some term) free named e =
+    let same : term ≡ named = cc in
+    subst (λ t. t.iri ≡ Some iri) same (stands_for-same iri term.iri (and_parts (not has_value) (stands_for iri term) free).1)
 
 -- an element that a partial function made
 made_from : {A B : Type 0} (h : A → Option B) (xs : List A) (y : B) → Contains (filter_map h xs) y → (x : A) × Contains xs x × (h x ≡ Some y)
@@ -86,8 +106,9 @@ by_term-tells table iri pick text e =
 
 by_vocab-tells : (table : TermTable) (iri text : List ℕ) → by_vocab table iri ≡ Some text → IsRestFor table iri text
 by_vocab-tells table iri text e =
-    let (start, mapping, whole) = rest-whole iri table.vocab text (untaken table (rest_after iri table.vocab) text e) in
-    record { start = start; mapping = mapping; whole = whole }
+    let (left, no_term, no_keyword) = untaken table (rest_after iri table.vocab) text e in
+    let (start, mapping, whole) = rest-whole iri table.vocab text left in
+    record { start = start; mapping = mapping; whole = whole; no_term = no_term; no_keyword = no_keyword }
 
 by_prefix-tells : (table : TermTable) (iri : List ℕ) (has_value : Bool) (text : List ℕ) → by_prefix table iri has_value ≡ Some text → IsCompactFor table iri text
 by_prefix-tells table iri has_value text e =
@@ -95,12 +116,7 @@ by_prefix-tells table iri has_value text e =
     let kept = filter_in free (filter_map (compact_iri iri) table.terms) text (least_in (λ compact. length compact ∷ compact) (filter free (filter_map (compact_iri iri) table.terms)) text e) in
     let (term, listed, at) = made_from (compact_iri iri) table.terms text kept.0 in
     let (may, (start, rest, has, whole, written)) = compact-parts iri term text at in
-    record { term = term; start = start; rest = rest; listed = listed; may_prefix = may; has_iri = has; whole = whole; written = written }
-
--- a refusal or a value
-unrefused : {A : Type 0} (b : Bool) (x y : A) → cond b None (Some x) ≡ Some y → (b ≡ false) × (y ≡ x)
-unrefused true x y e = cc
-unrefused false x y e = (refl, cc)
+    record { term = term; start = start; rest = rest; listed = listed; may_prefix = may; has_iri = has; whole = whole; written = written; own_term = free-own iri has_value (term_named table text) kept.1 }
 
 -- the step that gave a compacted IRI; the IRI itself only where it isn't confused
 pub short-steps : (table : TermTable) (iri : List ℕ) (vocab : Bool) (pick : Pick) (text : List ℕ) → short table iri vocab pick ≡ Some text

@@ -2,11 +2,12 @@
 use Rattle.std.specs.Prelude.{◌≡◌, List, ◌∷◌, ◌++◌, ℕ, Bool, true, false, ◌⊎◌, Some, None, Contains}
 use Rattle.lf_model.specs.declared.table.TermTable.{TermTable}
 use Rattle.lf_model.specs.declared.table.TermDef.{TermDef}
+use Rattle.lf_contexts.specs.Keywords.{is_keyword}
 use Rattle.lf_contexts.specs.Texts.{begins_authority}
 use Rattle.lf_selection.specs.declared.pick.Pick.{Pick}
 use Rattle.lf_selection.specs.Slots.{slot, slots}
 use Rattle.lf_selection.specs.Chosen.{chosen, rank, ranks_less}
-use Rattle.lf_selection.specs.Iris.{short}
+use Rattle.lf_selection.specs.Iris.{short, term_named}
 
 -- a term has the IRI, a container of the pick, and stands in one of the pick's slots
 pub record Fitting (table : TermTable) (iri : List ℕ) (pick : Pick) (term : TermDef) : Type 0 where
@@ -40,13 +41,15 @@ pub record IsTermFor (table : TermTable) (iri text : List ℕ) : Type 0 where
   pub has_iri : term.iri ≡ Some iri
   pub name : term.name ≡ text
 
--- the vocabulary mapping and a text are the IRI
+-- the vocabulary mapping and a text are the IRI, and the text is neither a term nor a keyword
 pub record IsRestFor (table : TermTable) (iri text : List ℕ) : Type 0 where
   pub start : List ℕ
   pub mapping : table.vocab ≡ Some start
   pub whole : start ++ text ≡ iri
+  pub no_term : term_named table text ≡ None
+  pub no_keyword : is_keyword text ≡ false
 
--- a text is a prefix, a colon and the rest of the IRI
+-- a text is a prefix, a colon and the rest of the IRI; a term of this name stands for the IRI
 pub record IsCompactFor (table : TermTable) (iri text : List ℕ) : Type 0 where
   pub term : TermDef
   pub start : List ℕ
@@ -56,6 +59,7 @@ pub record IsCompactFor (table : TermTable) (iri text : List ℕ) : Type 0 where
   pub has_iri : term.iri ≡ Some start
   pub whole : start ++ rest ≡ iri
   pub written : term.name ++ 58 ∷ rest ≡ text
+  pub own_term : (named : TermDef) → term_named table text ≡ Some named → named.iri ≡ Some iri
 
 -- a compacted IRI is one of these, or the IRI itself; terms and the vocabulary mapping only where the vocabulary counts
 abbrev pub ShortTellsIri : Type 0

@@ -8,22 +8,24 @@ use Rattle.lf_contexts.specs.Texts.{after_colon, begins_authority, has_byte, has
 use Rattle.lf_contexts.specs.Expansion.{expand, find_term}
 use Rattle.lf_selection.specs.declared.pick.Pick.{Pick}
 use Rattle.lf_selection.specs.Iris.{short}
-use Rattle.lf_selection.specs.Laws.{IsRestFor}
+use Rattle.lf_selection.specs.Laws.{IsCompactFor, IsRestFor}
 
--- a table as contexts make them: a term is found by its name, and a prefix has a name without a colon, which isn't `_`
+-- a table as contexts make them: a term is found by its name, which hasn't the form of a keyword, and a prefix has a name without a
+-- colon, which isn't `_`
 pub record IsOrdinary (table : TermTable) : Type 0 where
   pub found : (term : TermDef) → Contains table.terms term → find_term term.name table.terms ≡ Some term
+  pub no_form : (term : TermDef) → Contains table.terms term → has_keyword_form term.name ≡ false
   pub prefix_name : (term : TermDef) → Contains table.terms term → term.prefix ≡ true → term.name ≢ []
   pub no_colon : (term : TermDef) → Contains table.terms term → term.prefix ≡ true → has_byte 58 term.name ≡ false
   pub no_blank : (term : TermDef) → Contains table.terms term → term.prefix ≡ true → text_eq term.name (95 ∷ []) ≡ false
 
--- a compacted IRI that is read as what it was written for: it hasn't the form of a keyword, a term of this name stands for the IRI,
--- `//` follows its colon only in the IRI itself, and a rest behind the vocabulary mapping has no colon
+-- the three ways in which a compacted IRI can be read as something else don't hold: a rest behind the vocabulary mapping has a colon or
+-- the form of a keyword, `//` follows the colon of a compact IRI, or the IRI itself is the name of a term of another IRI
 pub record IsPlain (table : TermTable) (iri text : List ℕ) : Type 0 where
-  pub no_keyword : has_keyword_form text ≡ false
-  pub own_term : (term : TermDef) → find_term text table.terms ≡ Some term → term.iri ≡ Some iri
-  pub no_authority : begins_authority (after_colon text) ≡ true → text ≡ iri
   pub no_colon : IsRestFor table iri text → has_later_colon text ≡ false
+  pub no_form : IsRestFor table iri text → has_keyword_form text ≡ false
+  pub no_authority : IsCompactFor table iri text → begins_authority (after_colon text) ≡ true → text ≡ iri
+  pub own_term : text ≡ iri → (term : TermDef) → find_term text table.terms ≡ Some term → term.iri ≡ Some iri
 
 abbrev pub ExpansionGivesBack : Type 0
 ExpansionGivesBack =

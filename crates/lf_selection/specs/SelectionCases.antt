@@ -79,6 +79,76 @@ pub shortest : option_map (λ t. t.name) (chosen names iri (record linked { pref
 unfolding selection_open
 shortest = refl
 
+-- of the same length the least is chosen
+pub least_bytes :
+    option_map (λ t. t.name)
+    (chosen
+    (table None (
+    term (codes "q") iri None None container.NoContainer
+    ∷ term (codes "o") iri None None container.NoContainer
+    ∷ term (codes "p") iri None None container.NoContainer
+    ∷ [])) iri linked)
+    ≡ Some (codes "o")
+unfolding selection_open
+least_bytes = refl
+
+-- a term without a language of its own stands under the table's language, and one whose language is null under `@null`
+pub default_language : option_map (λ t. t.name) (chosen names iri (record english { preferred = codes "de" ∷ at_none ∷ at_any ∷ [] })) ≡ Some (codes "p")
+unfolding selection_open
+default_language = refl
+
+pub null_language : option_map (λ t. t.name) (chosen names iri (record english { preferred = codes "@null" ∷ at_none ∷ at_any ∷ [] })) ≡ Some (codes "null")
+unfolding selection_open
+null_language = refl
+
+-- the coercion `@none` stands under any type and any language, which are asked for last
+abbrev any_kind : TermTable
+any_kind = table None (term (codes "any") iri (Some (codes "@none")) None container.NoContainer ∷ [])
+
+pub any_type : option_map (λ t. t.name) (chosen any_kind iri linked) ≡ Some (codes "any")
+unfolding selection_open
+any_type = refl
+
+pub any_language : option_map (λ t. t.name) (chosen any_kind iri english) ≡ Some (codes "any")
+unfolding selection_open
+any_language = refl
+
+pub any_last :
+    option_map (λ t. t.name)
+    (chosen
+    (table None (
+    term (codes "any") iri (Some (codes "@none")) None container.NoContainer
+    ∷ term (codes "longer") iri None None container.NoContainer
+    ∷ [])) iri english)
+    ≡ Some (codes "longer")
+unfolding selection_open
+any_last = refl
+
+-- every term but a reverse one stands in (any, `@none`), which a list asks for that is empty
+abbrev empty_list : Pick
+empty_list = record {
+  containers = container.List ∷ container.NoContainer ∷ [];
+  kind = AnyKind;
+  preferred = at_none ∷ at_any ∷ [];
+  has_value = true;
+}
+
+pub any_term : option_map (λ t. t.name) (chosen names iri empty_list) ≡ Some (codes "p")
+unfolding selection_open
+any_term = refl
+
+-- a reverse term is chosen where `@reverse` is asked for, and nowhere else
+abbrev turned : TermTable
+turned = table None (record (term (codes "in") iri (Some (codes "@id")) None container.NoContainer) { reverse = true } ∷ [])
+
+pub reverse_only : chosen turned iri linked ≡ None
+unfolding selection_open
+reverse_only = refl
+
+pub reverse_asked : option_map (λ t. t.name) (chosen turned iri (record linked { preferred = codes "@reverse" ∷ linked.preferred })) ≡ Some (codes "in")
+unfolding selection_open
+reverse_asked = refl
+
 -- the container decides before the slot
 pub container_first :
     option_map (λ t. t.name)
@@ -122,6 +192,12 @@ pub shortest_prefix : short prefixes (codes "http://e/pq") false no_value ≡ So
 unfolding selection_open
 shortest_prefix = refl
 
+pub least_prefix :
+    short (table None (prefix (codes "eb") (codes "http://e/") ∷ prefix (codes "ea") (codes "http://e/") ∷ [])) (codes "http://e/p") false no_value
+    ≡ Some (codes "ea:p")
+unfolding selection_open
+least_prefix = refl
+
 -- a prefix doesn't stand for its own IRI
 pub no_rest : short prefixes (codes "http://e/") false no_value ≡ Some (codes "http://e/")
 unfolding selection_open
@@ -149,10 +225,43 @@ pub vocab_keyword : short prefixes (codes "http://v/@id") true no_value ≡ Some
 unfolding selection_open
 vocab_keyword = refl
 
+-- the vocabulary mapping comes before prefixes, and doesn't count for ids
+abbrev both_ways : TermTable
+both_ways = table (Some (codes "http://e/")) (prefix (codes "e") (codes "http://e/") ∷ [])
+
+pub vocab_first : short both_ways (codes "http://e/p") true no_value ≡ Some (codes "p")
+unfolding selection_open
+vocab_first = refl
+
+pub prefix_for_ids : short both_ways (codes "http://e/p") false no_value ≡ Some (codes "e:p")
+unfolding selection_open
+prefix_for_ids = refl
+
+-- a compact IRI that is the name of a term: of another IRI it isn't used, and of this IRI only where there is no value
+abbrev named_compact : List ℕ → TermTable
+named_compact stands_for =
+    table None (prefix (codes "ex") (codes "http://e/") ∷ term (codes "ex:p") stands_for None None container.NoContainer ∷ [])
+
+pub other_compact : short (named_compact (codes "http://e/q")) iri false no_value ≡ Some iri
+unfolding selection_open
+other_compact = refl
+
+pub own_compact : short (named_compact iri) iri false no_value ≡ Some (codes "ex:p")
+unfolding selection_open
+own_compact = refl
+
+pub own_compact_of_value : short (named_compact iri) iri false linked ≡ Some iri
+unfolding selection_open
+own_compact_of_value = refl
+
 -- an IRI that would be read by a prefix, and one with an authority, which wouldn't
 pub confused : short prefixes (codes "tag:x,1") false no_value ≡ None
 unfolding selection_open
 confused = refl
+
+pub confused_with_vocab : short prefixes (codes "tag:x,1") true no_value ≡ None
+unfolding selection_open
+confused_with_vocab = refl
 
 pub authority : short prefixes (codes "tag://x") false no_value ≡ Some (codes "tag://x")
 unfolding selection_open

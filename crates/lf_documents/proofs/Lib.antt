@@ -1,5 +1,6 @@
 pub mod Pruned
 pub mod Removed
+pub mod Written
 pub mod Documents
 pub mod Keys
 pub mod OrderedKit

@@ -1,5 +1,5 @@
 -- Term tables and trees of the worked cases.
-use Rattle.std.specs.Prelude.{List, [], ◌∷◌, ℕ, Option, Some, None, true, false, codes}
+use Rattle.std.specs.Prelude.{List, [], ◌∷◌, ℕ, Option, Some, None, true, false, codes, option_map}
 use Rattle.lf_rdf.specs.declared.term.Term.TheVariants.{Iri, Blank, Literal}
 use Rattle.lf_rdf.specs.Vocabulary.{rdf_lang_string, xsd_string}
 use Rattle.lf_model.specs.JsonData.{JsonValue, text, object, members_of}
@@ -8,6 +8,8 @@ use Rattle.lf_model.specs.declared.table.TermTable.{TermTable}
 use Rattle.lf_model.specs.declared.table.TermDef.{TermDef}
 use Rattle.lf_model.specs.declared.table.Container.{Container}
 use Rattle.lf_model.specs.declared.table.Container.TheVariants as container
+use Rattle.lf_documents.specs.Nodes.{compact}
+use Rattle.lf_documents.specs.JsonPrint.{json_text}
 
 -- a term that stands for an IRI
 abbrev pub plain_term : List ℕ → List ℕ → TermDef
@@ -108,3 +110,7 @@ tagged lexical language = literal_entry (Literal lexical rdf_lang_string (Some l
 -- a reference
 abbrev pub reference : List ℕ → TreeEntry
 reference iri = node_entry (node_of iri [])
+
+-- the printed text of a compacted tree
+abbrev pub printed : TermTable → TreeNode → Option (List ℕ)
+printed table root = option_map json_text (compact table root)

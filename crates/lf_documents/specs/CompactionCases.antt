@@ -1,20 +1,14 @@
 -- Worked cases of compaction: lists, reverse properties, graphs, types, coercions, and entries under one key.
-use Rattle.std.specs.Prelude.{◌≡◌, refl, List, [], ◌∷◌, ℕ, Option, Some, None, true, codes, option_map, pos}
+use Rattle.std.specs.Prelude.{◌≡◌, refl, List, [], ◌∷◌, ℕ, Some, None, true, codes, pos, map}
 use Rattle.std.specs.Fmt.{digits}
 use Rattle.lf_rdf.specs.declared.term.Term.TheVariants.{Iri, Literal}
 use Rattle.lf_rdf.specs.Vocabulary.{xsd_string}
 use Rattle.lf_model.specs.declared.frame.DefaultValue.TheVariants.{Scalar}
 use Rattle.lf_model.specs.declared.scalar.Scalar.TheVariants.{Whole, Bool}
-use Rattle.lf_model.specs.declared.table.TermTable.{TermTable}
 use Rattle.lf_model.specs.declared.table.Container.TheVariants as container
 use Rattle.lf_model.specs.TreeData.{TreeNode, tree, no_nodes, no_properties, no_reverses, nodes_of, properties_of, reverses_of, entries_of, list_entry, literal_entry, fallback_entry}
 use Rattle.lf_selection.specs.Keywords.{selection_open}
-use Rattle.lf_documents.specs.CaseData.{held_term, many, no_terms, node_of, one, plain, plain_term, prefix_term, reference, table_of, typed_term}
-use Rattle.lf_documents.specs.Nodes.{compact}
-use Rattle.lf_documents.specs.JsonPrint.{json_text}
-
-abbrev printed : TermTable → TreeNode → Option (List ℕ)
-printed table root = option_map json_text (compact table root)
+use Rattle.lf_documents.specs.CaseData.{held_term, many, no_terms, node_of, one, plain, plain_term, prefix_term, printed, reference, table_of, typed_term}
 
 -- a list under a term with `@list`, its items by the term's coercion
 pub list_in_term :
@@ -138,3 +132,24 @@ pub aliases :
     ≡ Some (codes "{\"id\":\"http://e/a\",\"kind\":[\"http://e/T\"]}")
 unfolding selection_open
 aliases = refl
+
+-- values of `@reverse`: those with a reverse term stand in the node, behind a property of the same key, and the others under `@reverse`
+pub reverse_beside_property :
+    printed (table_of None (record (plain_term (codes "foo:") (codes "http://e/p")) { reverse = true } ∷ []))
+    (tree (Some (Iri (codes "http://e/a"))) [] no_nodes (properties_of (one (codes "foo:") (plain (codes "1")) ∷ []))
+    (reverses_of (
+    (codes "http://e/p", nodes_of (node_of (codes "http://e/b") [] ∷ []))
+    ∷ (codes "http://e/q", nodes_of (node_of (codes "http://e/c") [] ∷ node_of (codes "http://e/d") [] ∷ []))
+    ∷ [])))
+    ≡ Some (codes "{\"@id\":\"http://e/a\",\"@reverse\":{\"http://e/q\":[{\"@id\":\"http://e/c\"},{\"@id\":\"http://e/d\"}]},\"foo:\":[\"1\",{\"@id\":\"http://e/b\"}]}")
+unfolding selection_open xsd_string
+reverse_beside_property = refl
+
+-- inner lists of a list under a term with `@list` are arrays too
+pub inner_lists :
+    printed (table_of None (held_term (codes "l") (codes "http://e/l") container.List ∷ []))
+    (node_of (codes "http://e/a")
+    (one (codes "http://e/l") (list_entry (entries_of (list_entry (entries_of (plain (codes "1") ∷ [])) ∷ list_entry (entries_of []) ∷ []))) ∷ []))
+    ≡ Some (codes "{\"@id\":\"http://e/a\",\"l\":[[\"1\"],[]]}")
+unfolding selection_open xsd_string
+inner_lists = refl

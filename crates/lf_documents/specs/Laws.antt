@@ -1,5 +1,6 @@
 -- Laws of pruning and of documents.
-use Rattle.std.specs.Prelude.{◌≡◌, false, ◌↔◌, List, ◌∷◌, ◌++◌, ℕ, ◌+◌, ◌≤◌, ◌≢◌, length, map, sum_by, Contains}
+use Rattle.std.specs.Prelude.{◌≡◌, true, false, ◌↔◌, List, ◌∷◌, ◌++◌, ℕ, ◌+◌, ◌<◌, ◌≤◌, ◌≢◌, length, map, sum_by, Contains}
+use Rattle.std.specs.List.{list_any}
 use Rattle.std.specs.List.Sorted.{IsStrictlySortedBy}
 use Rattle.std.specs.Ordering.{nat_cmp}
 use Rattle.std.specs.Cmp.Lexicographic.{slice_cmp}
@@ -7,14 +8,17 @@ use Rattle.lf_model.specs.declared.table.TermTable.{TermTable}
 use Rattle.lf_model.specs.declared.error.LdError.{LdError}
 use Rattle.lf_model.specs.declared.error.LdError.TheVariants.{IriConfusedWithPrefix}
 use Rattle.lf_model.specs.declared.document.Limit.{Limit}
+use Rattle.lf_model.specs.declared.document.Limit.TheVariants.{DocumentItems}
 use Rattle.lf_model.specs.declared.document.Doc.TheVariants as doc
 use Rattle.lf_model.specs.JsonData.{JsonValue}
 use Rattle.lf_model.specs.TreeData.{TreeNode}
+use Rattle.lf_selection.specs.Iris.{is_confused}
 use Rattle.lf_documents.specs.Pruning.{count_node, label_count, prune_node}
 use Rattle.lf_documents.specs.Ids.{node_has_id}
+use Rattle.lf_documents.specs.Written.{node_has}
 use Rattle.lf_framing.specs.Items.{node_items}
 use Rattle.lf_documents.specs.Grouping.{keys_of}
-use Rattle.lf_framing.specs.Outcome.{Outcome, past}
+use Rattle.lf_framing.specs.Outcome.{Outcome, matched, past}
 use Rattle.lf_documents.specs.Document.{trees, limited, gathered, document, most_items, most_bytes}
 
 -- the count of a label over two lists of trees is the sum of both counts
@@ -44,11 +48,13 @@ PruningMayBeIdle =
 abbrev pub PruningKeepsItems : Type 0
 PruningKeepsItems = (counts : List ℕ → ℕ) (node : TreeNode) → node_items (prune_node counts node) ≡ node_items node
 
--- a document is refused only with this error
+-- a document is refused only with this error, and only where its trees are written with an IRI that is confused
 abbrev pub RefusedAsConfused : Type 0
 RefusedAsConfused =
     (table : TermTable) (context : JsonValue) (outcomes : List Outcome) (error : LdError)
-    → document table context outcomes ≡ doc.Refused error → error ≡ IriConfusedWithPrefix
+    → document table context outcomes ≡ doc.Refused error
+    → (error ≡ IriConfusedWithPrefix)
+    × ((all : List TreeNode) × (gathered 0 outcomes ≡ trees all) × (list_any (node_has (is_confused table)) all ≡ true))
 
 -- a document's text is within the limit
 abbrev pub TextWithinLimit : Type 0
@@ -66,6 +72,13 @@ abbrev pub FirstLimitDecides : Type 0
 FirstLimitDecides =
     (before after : List Outcome) (all : List TreeNode) (limit : Limit) → gathered 0 before ≡ trees all
     → gathered 0 (before ++ past limit ∷ after) ≡ limited limit
+
+-- and a tree that takes the sum of items above the limit decides likewise
+abbrev pub FirstExcessDecides : Type 0
+FirstExcessDecides =
+    (before after : List Outcome) (all : List TreeNode) (found : TreeNode) → gathered 0 before ≡ trees all
+    → most_items < sum_by node_items all + node_items found
+    → gathered 0 (before ++ matched found ∷ after) ≡ limited DocumentItems
 
 -- the keys of a map stand in byte order, each once
 abbrev pub KeysAscend : Type 0

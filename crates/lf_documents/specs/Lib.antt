@@ -6,6 +6,7 @@ pub mod Entries
 pub mod Nodes
 pub mod Pruning
 pub mod Ids
+pub mod Written
 pub mod PrintedContext
 pub mod JsonPrint
 pub mod Document
@@ -19,3 +20,4 @@ pub mod DocumentCases
 pub mod Laws
 pub mod Ordered
 pub mod CompactionCases
+pub mod ValueCases

@@ -1,5 +1,5 @@
 ghost use Rattle.lf_documents.specs.Ordered.{CompactedIsOrdered};
-ghost use Rattle.lf_documents.specs.Laws.{CountsAddUp, FirstLimitDecides, ItemsWithinLimit, KeysAreOfEntries, KeysAscend, PruningKeepsItems, PruningKeepsOthers, PruningMayBeIdle, PruningRemovesOnce, RefusedAsConfused, TextWithinLimit};
+ghost use Rattle.lf_documents.specs.Laws.{CountsAddUp, FirstExcessDecides, FirstLimitDecides, ItemsWithinLimit, KeysAreOfEntries, KeysAscend, PruningKeepsItems, PruningKeepsOthers, PruningMayBeIdle, PruningRemovesOnce, RefusedAsConfused, TextWithinLimit};
 
 /// The count of a label is the sum over the trees.
 pub fn counts_add_up()
@@ -26,7 +26,8 @@ pub fn pruning_keeps_items()
     ensures { PruningKeepsItems }
 {}
 
-/// A document's only error is IRI confused with prefix.
+/// A document's only error is IRI confused with prefix, and it comes only where an id, type, datatype or property of its trees
+/// is confused.
 pub fn refused_as_confused()
     ensures { RefusedAsConfused }
 {}
@@ -44,6 +45,11 @@ pub fn items_within_limit()
 /// The first outcome that is a limit decides.
 pub fn first_limit_decides()
     ensures { FirstLimitDecides }
+{}
+
+/// The first tree that takes the sum of items above the limit decides.
+pub fn first_excess_decides()
+    ensures { FirstExcessDecides }
 {}
 
 /// The keys of a map stand in byte order, each once.

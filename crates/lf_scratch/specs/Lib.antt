@@ -1,3 +1,5 @@
 pub mod Scratch
 pub mod Laws
+pub mod RowWords
 pub mod Rows
+pub mod EdgeRows

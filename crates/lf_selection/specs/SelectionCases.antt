@@ -4,6 +4,8 @@ use Rattle.lf_model.specs.declared.table.TermTable.{TermTable}
 use Rattle.lf_model.specs.declared.table.TermDef.{TermDef}
 use Rattle.lf_model.specs.declared.table.Container.{Container}
 use Rattle.lf_model.specs.declared.table.Container.TheVariants as container
+use Rattle.lf_contexts.specs.Keywords.{has_keyword_form}
+use Rattle.lf_contexts.specs.Expansion.{expand}
 use Rattle.lf_selection.specs.declared.pick.Pick.{Pick}
 use Rattle.lf_selection.specs.declared.pick.PickKind.TheVariants.{AnyKind, LanguageKind, TypeKind}
 use Rattle.lf_selection.specs.Keywords.{selection_open, at_any, at_id, at_none}
@@ -266,6 +268,31 @@ confused_with_vocab = refl
 pub authority : short prefixes (codes "tag://x") false no_value ≡ Some (codes "tag://x")
 unfolding selection_open
 authority = refl
+
+-- what is compacted by these rules and read as something else: a rest with a colon, a rest of a keyword's form, `//` behind a prefix, and
+-- an IRI that is the name of a term of another IRI
+abbrev expanded : TermTable → Option (List ℕ) → Option (List ℕ)
+expanded terms None = None
+expanded terms (Some written) = expand terms written true
+
+abbrev read_again : TermTable → List ℕ → Option (List ℕ)
+read_again terms text = expanded terms (short terms text true no_value)
+
+pub rest_with_colon : read_again prefixes (codes "http://v/a:b") ≡ Some (codes "a:b")
+unfolding selection_open expand has_keyword_form
+rest_with_colon = refl
+
+pub rest_like_keyword : read_again prefixes (codes "http://v/@word") ≡ None
+unfolding selection_open expand has_keyword_form
+rest_like_keyword = refl
+
+pub authority_behind_prefix : read_again prefixes (codes "http://e///p") ≡ Some (codes "ex://p")
+unfolding selection_open expand has_keyword_form
+authority_behind_prefix = refl
+
+pub named_like_iri : read_again (table None (term (codes "foo:") iri None None container.NoContainer ∷ [])) (codes "foo:") ≡ Some iri
+unfolding selection_open expand has_keyword_form
+named_like_iri = refl
 
 -- an alias of a keyword
 pub alias : short_keyword (table None (term (codes "id") (codes "@id") None None container.NoContainer ∷ [])) at_id ≡ codes "id"

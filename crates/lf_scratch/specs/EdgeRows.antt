@@ -1,12 +1,12 @@
 -- Whole documents in which one rule of compaction, pruning or printing decides.
-use Rattle.std.specs.Prelude.{◌≡◌, refl, [], ◌∷◌, pos, negsuc, true, codes}
+use Rattle.std.specs.Prelude.{refl, [], ◌∷◌, pos, negsuc, true, codes}
 use Rattle.lf_rdf.specs.declared.term.Term.TheVariants.{Blank, Iri}
 use Rattle.lf_rdf.specs.Vocabulary.{rdf_type, rdf_first, rdf_rest, rdf_nil}
 use Rattle.lf_model.specs.JsonData.{null, fraction, text, truth, whole}
 use Rattle.lf_model.specs.declared.error.LdError.TheVariants as ld
 use Rattle.lf_model.specs.declared.document.Doc.TheVariants.{Refused}
 use Rattle.lf_contexts.specs.CaseWords.{list_of, map_of}
-use Rattle.lf_framing.specs.Worked.Words.{quad, quad_in, string, a, b, c, g, l, n, p, q}
+use Rattle.lf_framing.specs.Worked.Words.{quad, quad_in, string, a, b, g, l, n, p, q}
 use Rattle.lf_scratch.specs.RowWords.{Gives, Prints, rows_open, tagged, typed}
 
 -- a node under a reverse term stands in the map of the node itself

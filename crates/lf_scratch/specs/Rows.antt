@@ -1,8 +1,8 @@
 -- Whole documents: from a frame and quads to the printed bytes.
-use Rattle.std.specs.Prelude.{◌≡◌, refl, [], ◌∷◌, true, codes}
+use Rattle.std.specs.Prelude.{refl, [], ◌∷◌, true, codes}
 use Rattle.lf_rdf.specs.declared.term.Term.TheVariants.{Blank, Iri}
 use Rattle.lf_rdf.specs.Vocabulary.{rdf_type, rdf_first, rdf_rest, rdf_nil}
-use Rattle.lf_model.specs.JsonData.{null, fraction, text, truth}
+use Rattle.lf_model.specs.JsonData.{fraction, text, truth}
 use Rattle.lf_model.specs.declared.error.LdError.TheVariants as ld
 use Rattle.lf_model.specs.declared.document.Doc.TheVariants.{Refused}
 use Rattle.lf_contexts.specs.CaseWords.{list_of, map_of}

@@ -9,15 +9,14 @@ use Rattle.lf_model.specs.declared.table.TermTable.{TermTable}
 use Rattle.lf_model.specs.declared.table.TermDef.{TermDef}
 use Rattle.lf_model.specs.declared.frame.DefaultValue.{DefaultValue}
 use Rattle.lf_model.specs.declared.frame.DefaultValue.TheVariants as default
-use Rattle.lf_model.specs.JsonData.{JsonValue, text}
+use Rattle.lf_model.specs.JsonData.{JsonValue}
 use Rattle.lf_model.specs.TreeData.{TreeNode, tree, TreeNodes, no_nodes, node, TreeProperties, no_properties, property, TreeReverses, no_reverses, reverse, TreeEntry, node_entry, literal_entry, list_entry, fallback_entry, empty_fallback, TreeEntries, no_entries, entry}
 use Rattle.lf_selection.specs.declared.pick.Pick.{Pick}
 use Rattle.lf_selection.specs.Chosen.{chosen}
 use Rattle.lf_selection.specs.Iris.{by_prefix, by_vocab, is_confused, no_value, short, short_node}
 use Rattle.lf_documents.specs.Trying.{◌>>=◌}
 use Rattle.lf_documents.specs.Picks.{Plain, literal_plain, pick_of, reverse_pick, scalar_plain, tree_id}
-use Rattle.lf_documents.specs.Values.{coerces_to, datatype_entry, is_bare, language_entry, plain_json, reference_json, value_object}
-use Rattle.lf_documents.specs.Entries.{Filed}
+use Rattle.lf_documents.specs.Values.{datatype_entry, is_bare, plain_json, reference_json, value_object}
 use Rattle.lf_documents.specs.Nodes.{compact, default_json, id_entry, is_sole, items_json, lone_id, node_json, nodes_json, pointing_filed, properties_filed, reference_or_map, reverses_filed, short_types, type_entry, value_json, values_filed}
 use Rattle.lf_documents.specs.Pruning.{prune_entries, prune_entry, prune_id, prune_node, prune_nodes, prune_properties, prune_reverses}
 use Rattle.lf_documents.specs.Document.{compact_all}

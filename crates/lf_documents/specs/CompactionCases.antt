@@ -1,5 +1,5 @@
 -- Worked cases of compaction: lists, reverse properties, graphs, types, coercions, and entries under one key.
-use Rattle.std.specs.Prelude.{◌≡◌, refl, List, [], ◌∷◌, ℕ, Some, None, true, codes, pos, map}
+use Rattle.std.specs.Prelude.{◌≡◌, refl, List, [], ◌∷◌, ℕ, Some, None, true, codes, pos}
 use Rattle.std.specs.Fmt.{digits}
 use Rattle.lf_rdf.specs.declared.term.Term.TheVariants.{Iri, Literal}
 use Rattle.lf_rdf.specs.Vocabulary.{xsd_string}

@@ -11,7 +11,7 @@ use Rattle.lf_model.specs.declared.table.Container.TheVariants as container
 use Rattle.lf_model.specs.TreeData.{TreeNode, TreeEntry, entries_of, list_entry, literal_entry, fallback_entry}
 use Rattle.lf_selection.specs.Keywords.{selection_open}
 use Rattle.lf_selection.specs.Chosen.{chosen}
-use Rattle.lf_documents.specs.CaseData.{held_term, many, node_of, one, plain, plain_term, printed, reference, table_of, tagged, typed_term}
+use Rattle.lf_documents.specs.CaseData.{held_term, many, node_of, plain, plain_term, printed, reference, table_of, tagged, typed_term}
 use Rattle.lf_documents.specs.Picks.{pick_of}
 
 -- the containers of each kind of value, in order: a text with a language asks for language maps first, one without asks for them last, and

@@ -11,7 +11,7 @@ use Rattle.lf_selection.specs.Iris.{short}
 use Rattle.lf_selection.specs.Laws.{IsCompactFor, IsRestFor}
 
 -- a table as contexts make them: a term is found by its name, which hasn't the form of a keyword, and a prefix has a name without a
--- colon, which isn't `_`
+-- colon; and no prefix is named `_`, which would write the ids of blank nodes
 pub record IsOrdinary (table : TermTable) : Type 0 where
   pub found : (term : TermDef) → Contains table.terms term → find_term term.name table.terms ≡ Some term
   pub no_form : (term : TermDef) → Contains table.terms term → has_keyword_form term.name ≡ false

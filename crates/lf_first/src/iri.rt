@@ -8,12 +8,14 @@ use crate::error::FirstErr;
 use lf_base::Text;
 use std::alloc::Global;
 
+/// Whether a byte is an ASCII letter.
 fn is_letter(byte: u8) -> bool
     ensures { result ≡ is_letter byte }
 {
     (b'A' <= byte && byte <= b'Z') || (b'a' <= byte && byte <= b'z')
 }
 
+/// Whether a byte may stand in a scheme behind its first letter (RFC 3986, section 3.1).
 fn is_scheme_byte(byte: u8) -> bool
     ensures { result ≡ is_scheme_byte byte }
 {
@@ -24,6 +26,7 @@ fn is_scheme_byte(byte: u8) -> bool
         || byte == b'.'
 }
 
+/// Whether characters of a scheme and `:` begin the bytes.
 fn ends_scheme(bytes: &[u8]) -> bool
     ensures { result ≡ ends_scheme bytes.now }
 {
@@ -38,6 +41,7 @@ fn ends_scheme(bytes: &[u8]) -> bool
     false
 }
 
+/// Whether an IRI begins with a scheme and `:` (RFC 3986, section 3.1).
 pub fn is_absolute(iri: &[u8]) -> bool
     ensures { result ≡ is_absolute iri.now }
 {
@@ -47,6 +51,7 @@ pub fn is_absolute(iri: &[u8]) -> bool
     }
 }
 
+/// Whether a byte is one of the visible characters that may not stand raw in an IRI (RDF 1.1 N-Quads, production IRIREF).
 fn is_delimiter(byte: u8) -> bool
     ensures { result ≡ is_delimiter byte }
 {
@@ -61,12 +66,14 @@ fn is_delimiter(byte: u8) -> bool
         || byte == b'}'
 }
 
+/// Whether a byte may stand in an IRI of the first form.
 pub fn is_iri_byte(byte: u8) -> bool
     ensures { result ≡ is_iri_byte byte }
 {
     b'!' <= byte && byte <= b'~' && !is_delimiter(byte)
 }
 
+/// How many bytes at the front may stand in an IRI.
 fn iri_len(bytes: &[u8]) -> usize
     ensures { result ≡ prefix_len is_iri_byte bytes.now }
 {

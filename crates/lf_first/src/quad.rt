@@ -22,6 +22,7 @@ pub fn is_rdf_type(predicate: &str) -> bool
     predicate == RDF_TYPE
 }
 
+/// Whether a datatype is `xsd:string`.
 #[tactic(auto, unfolding(lf_rdf::specs::Vocabulary::xsd_string))]
 fn is_xsd_string(datatype: &str) -> bool
     ensures { result ≡ text_eq datatype.now xsd_string }
@@ -29,18 +30,21 @@ fn is_xsd_string(datatype: &str) -> bool
     datatype == XSD_STRING
 }
 
+/// Whether all bytes may stand in an IRI.
 fn is_iri_bytes(bytes: &[u8]) -> bool
     ensures { result ≡ list_all is_iri_byte bytes.now }
 {
     bytes.iter().all(|byte| is_iri_byte(*byte))
 }
 
+/// Whether an IRI may stand in a line.
 fn is_first_iri(iri: &[u8]) -> bool
     ensures { result ≡ is_first_iri iri.now }
 {
     is_absolute(iri) && is_iri_bytes(iri)
 }
 
+/// Whether a string may stand in a line.
 fn is_first_value(value: &[u8]) -> bool
     ensures { result ≡ list_all is_string_byte value.now }
 {
@@ -54,6 +58,7 @@ pub fn is_string_byte(byte: u8) -> bool
     b' ' <= byte && byte <= b'~' && byte != b'"' && byte != b'\\'
 }
 
+/// Whether a term may be the subject or the predicate of a line.
 fn is_first_name(name: &Term) -> bool
     ensures { result ≡ is_first_name name.now }
 {
@@ -64,6 +69,7 @@ fn is_first_name(name: &Term) -> bool
     }
 }
 
+/// Whether a predicate is the IRI `rdf:type`.
 fn is_type_predicate(predicate: &Term) -> bool
     ensures { result ≡ term_eq predicate.now (Iri rdf_type) }
 {
@@ -74,6 +80,7 @@ fn is_type_predicate(predicate: &Term) -> bool
     }
 }
 
+/// Whether a term may be the object of a line with this predicate.
 fn is_first_object(predicate: &Term, object: &Term) -> bool
     ensures { result ≡ is_first_object predicate.now object.now }
 {

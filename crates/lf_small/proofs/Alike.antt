@@ -69,7 +69,7 @@ fact_order = record {
 
 -- ---- lists that pass each test alike
 
-list_any-filter : {A : Type 0} (p q : A → Bool) (xs : List A) → list_any p (filter q xs) ≡ list_any (λ x. q x && p x) xs
+pub list_any-filter : {A : Type 0} (p q : A → Bool) (xs : List A) → list_any p (filter q xs) ≡ list_any (λ x. q x && p x) xs
 list_any-filter p q [] = refl
 list_any-filter p q (x ∷ xs) = go (q x) (list_any-filter p q xs)
   where
@@ -78,7 +78,7 @@ list_any-filter p q (x ∷ xs) = go (q x) (list_any-filter p q xs)
     go true ih = ap (λ r. p x || r) ih
     go false ih = ih
 
-list_any-map : {A B : Type 0} (p : B → Bool) (f : A → B) (xs : List A) → list_any p (map f xs) ≡ list_any (λ x. p (f x)) xs
+pub list_any-map : {A B : Type 0} (p : B → Bool) (f : A → B) (xs : List A) → list_any p (map f xs) ≡ list_any (λ x. p (f x)) xs
 list_any-map p f [] = refl
 list_any-map p f (x ∷ xs) = ap (λ r. p (f x) || r) (list_any-map p f xs)
 

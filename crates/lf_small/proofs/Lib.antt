@@ -1,3 +1,4 @@
 pub mod Escapes
 pub mod Ordered
 pub mod Alike
+pub mod Members

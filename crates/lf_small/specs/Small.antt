@@ -1,9 +1,9 @@
 -- The plain document of a dataset: its matched nodes with their types and values, in compact JSON-LD
 -- (JSON-LD 1.1, sections 9.2 and 9.3: node objects; JSON-LD 1.1 Framing, section 4.2: nodes are matched by their type).
 -- Datasets with blank nodes, named graphs or literals other than plain strings have a document here too, which says no more than their texts.
-use Rattle.std.specs.Prelude.{◌≡◌, ◌↔◌, List, [], ◌∷◌, ℕ, Option, Some, None, Bool, true, ◌&&◌, map, filter, codes, is_none}
+use Rattle.std.specs.Prelude.{List, [], ◌∷◌, ℕ, Option, Some, None, Bool, true, ◌&&◌, map, filter, codes, is_none}
 use Rattle.std.specs.Option.{option_cmp}
-use Rattle.std.specs.List.{Contains, list_any}
+use Rattle.std.specs.List.{list_any}
 use Rattle.lf_rdf.specs.declared.quad.Quad.{Quad}
 use Rattle.lf_rdf.specs.Equality.{text_eq, option_eq}
 use Rattle.lf_printed.specs.JsonText.{json_string, json_member, json_array, json_object}
@@ -71,9 +71,3 @@ document_of want facts = document (map (λ id. node_text id (about id facts)) (m
 -- the plain document of a dataset, of the nodes of the wanted type where one is asked for
 unfoldable pub small : Option (List ℕ) → List Quad → List ℕ
 small want quads = document_of want (map fact_of quads)
-
--- neither the order of the quads nor their repeats change the document
-abbrev pub SmallOfMembers : Type 0
-SmallOfMembers =
-    (want : Option (List ℕ)) (one two : List Quad) → ((q : Quad) → Contains one q ↔ Contains two q)
-    → small want one ≡ small want two

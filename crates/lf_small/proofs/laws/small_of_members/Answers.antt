@@ -2,7 +2,7 @@ use Rattle.std.proofs.Common.{map}
 use Rattle.lf_small.specs.Facts.{fact_of}
 use Rattle.lf_small.specs.Small.{small}
 use Rattle.lf_small.proofs.Alike.{Alike-map, Alike-from_contains, document_of-alike}
-use Rattle.lf_small.proofs.small_of_members.Goals as goal
+use Rattle.lf_small.proofs.laws.small_of_members.Goals as goal
 
 pub returns : goal.returns
 unfolding small

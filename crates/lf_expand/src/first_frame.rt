@@ -7,10 +7,13 @@ use lf_base::Text;
 use lf_first::{FirstErr, after_byte, iri_front};
 use std::alloc::Global;
 
+/// What stands before the type, behind the `{`.
 const TYPE_KEY: &[u8] = b"\"@type\":\"";
 
+/// What stands behind the type.
 const TYPE_END: &[u8] = b"\"}";
 
+/// What follows this text at the front.
 fn after_text<'a>(bytes: &'a [u8], text: &[u8]) -> Result<&'a [u8], FirstErr>
     ensures { Gives (λ rest. rest.now) result (after_text text.now bytes.now) }
 {
@@ -21,6 +24,7 @@ fn after_text<'a>(bytes: &'a [u8], text: &[u8]) -> Result<&'a [u8], FirstErr>
     Ok(rest)
 }
 
+/// Whether nothing is left, or one LF.
 fn is_end(bytes: &[u8]) -> bool
     ensures { result ≡ is_end bytes.now }
 {
@@ -30,6 +34,7 @@ fn is_end(bytes: &[u8]) -> bool
     }
 }
 
+/// The one type of a frame, behind its `{`.
 #[tactic(auto, unfolding(crate::specs::FirstFrame::type_at))]
 fn type_of(alloc: Global, bytes: &[u8]) -> Result<Option<Text>, FirstErr>
     ensures { Gives (λ want. want) result (type_at bytes.now) }
@@ -43,6 +48,7 @@ fn type_of(alloc: Global, bytes: &[u8]) -> Result<Option<Text>, FirstErr>
     Ok(Some(node_type))
 }
 
+/// What a frame asks for, behind its `{`.
 #[tactic(auto, unfolding(crate::specs::FirstFrame::body_at))]
 fn body_of(alloc: Global, bytes: &[u8]) -> Result<Option<Text>, FirstErr>
     ensures { Gives (λ want. want) result (body_at bytes.now) }
@@ -61,6 +67,7 @@ fn body_of(alloc: Global, bytes: &[u8]) -> Result<Option<Text>, FirstErr>
     }
 }
 
+/// What a frame asks for.
 #[tactic(auto, unfolding(crate::specs::FirstFrame::frame_at))]
 fn frame_of(alloc: Global, bytes: &[u8]) -> Result<Option<Text>, FirstErr>
     ensures { Gives (λ want. want) result (frame_at bytes.now) }
@@ -69,7 +76,8 @@ fn frame_of(alloc: Global, bytes: &[u8]) -> Result<Option<Text>, FirstErr>
     body_of(alloc, inside)
 }
 
-/// What a frame text of the first form asks for: nothing, or nodes of one type.
+/// What a frame text of the first form asks for: every node, or the nodes of one type (JSON-LD 1.1 Framing, section 4.2).
+/// `FirstErr::NotBuilt` comes exactly where the text isn't of the first form.
 pub fn read_first_frame(alloc: Global, bytes: &[u8]) -> Result<Option<Text>, FirstErr>
     ensures read { IfOk result (λ want. IsFirstFrame bytes.now want) }
 

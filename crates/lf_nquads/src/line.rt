@@ -12,6 +12,7 @@ use std::alloc::Global;
 /// `xsd:string` (RDF 1.1 Concepts, section 5.1).
 const XSD_STRING: &str = "http://www.w3.org/2001/XMLSchema#string";
 
+/// The IRI in angle brackets at the front, and what follows it.
 #[tactic(auto, unfolding(lf_first::specs::Reading::iri_at))]
 fn iri_of(alloc: Global, bytes: &[u8]) -> Result<(Text, &[u8]), FirstErr>
     ensures { Gives (λ found. (found.0, found.1.now)) result (iri_at bytes.now) }
@@ -22,6 +23,7 @@ fn iri_of(alloc: Global, bytes: &[u8]) -> Result<(Text, &[u8]), FirstErr>
     Ok((iri, rest))
 }
 
+/// How many bytes at the front may stand in a string.
 fn string_len(bytes: &[u8]) -> usize
     ensures { result ≡ prefix_len is_string_byte bytes.now }
 {
@@ -33,6 +35,7 @@ fn string_len(bytes: &[u8]) -> usize
     bytes.len()
 }
 
+/// The string in quotes at the front, and what follows it.
 #[tactic(auto, unfolding(lf_first::specs::Reading::string_at))]
 fn string_of(alloc: Global, bytes: &[u8]) -> Result<(Text, &[u8]), FirstErr>
     ensures { Gives (λ found. (found.0, found.1.now)) result (string_at bytes.now) }
@@ -43,6 +46,7 @@ fn string_of(alloc: Global, bytes: &[u8]) -> Result<(Text, &[u8]), FirstErr>
     Ok((ascii_text(alloc, value)?, rest))
 }
 
+/// The datatype of strings.
 #[tactic(auto, unfolding(lf_rdf::specs::Vocabulary::xsd_string))]
 fn string_type(alloc: Global) -> Result<Text, Memory>
     ensures { IfOk result (λ datatype. datatype ≡ xsd_string) }
@@ -50,6 +54,7 @@ fn string_type(alloc: Global) -> Result<Text, Memory>
     Text::of(alloc, XSD_STRING)
 }
 
+/// The object of a line with this predicate: an IRI behind `rdf:type`, and otherwise a string.
 #[tactic(auto, unfolding(lf_first::specs::Reading::object_at))]
 fn object_of<'a>(
     alloc: Global,
@@ -71,6 +76,7 @@ fn object_of<'a>(
     Ok((literal, rest))
 }
 
+/// What follows the end of a line: a space, a dot and LF.
 #[tactic(auto, unfolding(lf_first::specs::Reading::after_end))]
 fn end_of(bytes: &[u8]) -> Result<&[u8], FirstErr>
     ensures { Gives (λ rest. rest.now) result (after_end bytes.now) }

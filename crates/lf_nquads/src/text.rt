@@ -8,7 +8,8 @@ use lf_first::FirstErr;
 use lf_rdf::{Patch, Signed, SignedList};
 use std::alloc::Global;
 
-/// The additions that a text of the first form states.
+/// The additions that a text of the first form states, in order, and how many bytes it has. `FirstErr::NotBuilt` comes
+/// exactly where a line isn't of the first form.
 pub fn read_first(alloc: Global, bytes: &[u8]) -> Result<Patch, FirstErr>
     ensures read { IfOk result (λ patch. IsFirstText bytes.now (quads_of patch.lines)) }
     ensures adds { IfOk result (λ patch. IsTrue (list_all (λ signed. signed.add) patch.lines)) }

@@ -3,3 +3,4 @@ pub mod LegalProofs
 pub mod LiveProofs
 pub mod StandingProofs
 pub mod PublishedProofs
+pub mod TextProofs

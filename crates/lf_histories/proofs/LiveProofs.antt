@@ -8,11 +8,10 @@ use Rattle.lf_rdf.specs.Equality.{text_eq}
 use Rattle.lf_datasets.specs.Dataset.{at_version}
 use Rattle.lf_datasets.proofs.VersionProofs.{next_version, versions_stay, versions_are_datasets, lines_in_any_order}
 use Rattle.lf_histories.specs.declared.live.Live.{Live}
-use Rattle.lf_histories.specs.declared.operation.Operation.{Operation}
 use Rattle.lf_histories.specs.declared.operation.Operation.TheVariants.{Commit, Register, Retire}
 use Rattle.lf_histories.specs.History.{patches, commits, registrations, live_step, without, registered, find_frame, live_frames}
 use Rattle.lf_histories.specs.Replay.{newest_dataset}
-use Rattle.lf_histories.specs.HistoryLaws.{DatasetsStay, CommitMakesVersion, PatchLinesInAnyOrder, TextNumbersRise, LiveFramesStep, LiveOnceRegistered, GoneOnceRetired, OthersStayLive}
+use Rattle.lf_histories.specs.HistoryLaws.{DatasetsStay, CommitMakesVersion, PatchLinesInAnyOrder, OnlyCommitsMakeVersions, TextNumbersRise, LiveFramesStep, LiveOnceRegistered, GoneOnceRetired, OthersStayLive}
 use Rattle.lf_histories.proofs.Appended.{patches-append, commits-append, registrations-append, live_from-append}
 
 pub datasets_stay : DatasetsStay
@@ -137,8 +136,7 @@ others_stay_live history seat name other text patch apart = (
 -- ---- entries that make no version
 
 -- an entry that commits nothing leaves the newest dataset
-pub no_version : (history : List Operation) (entry : Operation) → patches (entry ∷ []) ≡ []
-    → (commits (history ++ entry ∷ []) ≡ commits history) × (newest_dataset (history ++ entry ∷ []) ≡ newest_dataset history)
+pub no_version : OnlyCommitsMakeVersions
 no_version history entry none =
     (ap length same, λ i. at_version (same i) (length (same i)))
   where

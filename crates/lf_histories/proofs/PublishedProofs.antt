@@ -1,15 +1,16 @@
--- What is published under a live name.
-use Rattle.std.proofs.Common.{◌≡◌, refl, ◌∙◌, ap, suc, ◌+◌, ℕ, List, [], ◌∷◌, ◌++◌, map, Bool, true, false, not, cond, Option, Some, None, unwrap_or, is_some, arith}
+-- What is published under a live name, and names that aren't live.
+use Rattle.std.proofs.Common.{◌≡◌, refl, sym, ◌∙◌, ap, suc, ◌+◌, ℕ, List, [], ◌∷◌, ◌++◌, map, Bool, true, false, not, cond, Option, Some, None, unwrap_or, is_some, arith}
 use Rattle.std.specs.List.{filter, list_all}
 use Rattle.lf_model.specs.declared.desk.Notice.{Notice}
 use Rattle.lf_histories.specs.Replay.{notices}
 use Rattle.std.proofs.lemmas.Bool.{false≢true, and_parts}
+use Rattle.std.specs.Cmp.Lexicographic.{bytes_decides}
 use Rattle.lf_rdf.specs.Equality.{text_eq}
 use Rattle.lf_histories.specs.declared.live.Live.{Live}
 use Rattle.lf_histories.specs.declared.operation.Operation.{Operation}
 use Rattle.lf_histories.specs.declared.operation.Operation.TheVariants.{Commit, Register, Retire, Publish}
-use Rattle.lf_histories.specs.History.{registrations, live_from, live_frames, without, registered, publish, find_frame}
-use Rattle.lf_histories.specs.HistoryLaws.{PublishedIsLast, keeps, versions_under, last_after, with_published}
+use Rattle.lf_histories.specs.History.{registrations, live_step, live_from, live_frames, without, registered, publish, find_frame}
+use Rattle.lf_histories.specs.HistoryLaws.{PublishedIsLast, AbsentUntilRegistered, registers, keeps, versions_under, last_after, with_published}
 use Rattle.lf_histories.proofs.Appended.{live_from-more}
 use Rattle.lf_histories.proofs.LiveProofs.{text_is, found_without, found_behind, found_others, found_before}
 
@@ -105,3 +106,50 @@ published_is_last history later seat name text kept =
         found_behind name (without name (live_frames history)) (registered name (suc (0 + registrations history)) text ∷ [])
         (found_without name (live_frames history))
         ∙ itself
+
+-- ---- names that aren't live
+
+none_at : (name other : List ℕ) (version : ℕ) (first : Live) (rest : List Live) (b : Bool)
+    → (find_frame name rest ≡ None → find_frame name (map (publish other version) rest) ≡ None)
+    → cond b (Some first) (find_frame name rest) ≡ None
+    → cond b (Some (publish other version first)) (find_frame name (map (publish other version) rest)) ≡ None
+none_at name other version first rest true ih e = absurd (false≢true (sym (ap is_some e)))
+none_at name other version first rest false ih e = ih e
+
+none_published : (name other : List ℕ) (version : ℕ) (frames : List Live) → find_frame name frames ≡ None
+    → find_frame name (map (publish other version) frames) ≡ None
+none_published name other version [] e = refl
+none_published name other version (first ∷ rest) e =
+    ap (λ (n : List ℕ).
+    cond (text_eq name n) (Some (publish other version first)) (find_frame name (map (publish other version) rest)))
+    (name_at name other version first (text_eq other first.name))
+    ∙ none_at name other version first rest (text_eq name first.name) (none_published name other version rest) e
+
+none_retired : (name other : List ℕ) (frames : List Live) (b : Bool) → text_eq name other ≡ b → find_frame name frames ≡ None
+    → find_frame name (without other frames) ≡ None
+none_retired name other frames true same e =
+    ap (λ (n : List ℕ). find_frame name (without n frames)) (sym ((bytes_decides name other).0 same)) ∙ found_without name frames
+none_retired name other frames false apart e = found_others name other frames apart ∙ e
+
+absent-step : (name : List ℕ) (count : ℕ) (frames : List Live) (entry : Operation) → not (registers name entry) ≡ true
+    → find_frame name frames ≡ None → find_frame name (live_step count frames entry) ≡ None
+absent-step name count frames (Commit seat patch) other e = e
+absent-step name count frames (Register seat other text) apart e =
+    found_before name (without other frames) (registered other (suc count) text) (denied (text_eq name other) apart)
+    ∙ (found_others name other frames (denied (text_eq name other) apart) ∙ e)
+absent-step name count frames (Retire seat other) apart e = none_retired name other frames (text_eq name other) refl e
+absent-step name count frames (Publish other version) apart e = none_published name other version frames e
+
+absent-from : (name : List ℕ) (later : List Operation) (count : ℕ) (frames : List Live)
+    → list_all (λ entry. not (registers name entry)) later ≡ true → find_frame name frames ≡ None
+    → find_frame name (live_from count frames later) ≡ None
+absent-from name [] count frames all e = e
+absent-from name (entry ∷ rest) count frames all e =
+    let parts = and_parts (not (registers name entry)) (list_all (λ one. not (registers name one)) rest) all in
+    absent-from name rest (count + registrations (entry ∷ [])) (live_step count frames entry) parts.1
+    (absent-step name count frames entry parts.0 e)
+
+pub absent_until_registered : AbsentUntilRegistered
+absent_until_registered history later name absent all =
+    ap (find_frame name) (live_from-more 0 [] history later)
+    ∙ absent-from name later (0 + registrations history) (live_frames history) all absent

@@ -1,16 +1,18 @@
 -- What holds of all histories.
-use Rattle.std.specs.Prelude.{◌≡◌, ◌≤◌, ◌<◌, List, [], ◌∷◌, ◌++◌, ℕ, suc, map, Bool, true, false, not, IsTrue, Option, Some, None}
+use Rattle.std.specs.Prelude.{◌≡◌, ◌≢◌, ◌≤◌, ◌<◌, List, [], ◌∷◌, ◌++◌, ℕ, suc, map, Bool, true, false, not, IsTrue, Option, Some, None}
 use Rattle.std.specs.List.{filter, list_all}
 use Rattle.lf_rdf.specs.declared.quad.Signed.{Signed}
 use Rattle.lf_rdf.specs.declared.quad.Patch.{Patch}
 use Rattle.lf_rdf.specs.Equality.{text_eq}
+use Rattle.lf_grammar.specs.PatchText.{lines_of, IsPatchText}
+use Rattle.lf_datasets.specs.Sorted.{has}
 use Rattle.lf_datasets.specs.Dataset.{after}
 use Rattle.lf_datasets.specs.VersionLaws.{has_line}
 use Rattle.lf_model.specs.declared.desk.Notice.{Notice}
 use Rattle.lf_histories.specs.declared.live.Live.{Live}
 use Rattle.lf_histories.specs.declared.operation.Operation.{Operation}
 use Rattle.lf_histories.specs.declared.operation.Operation.TheVariants.{Commit, Register, Retire, Publish}
-use Rattle.lf_histories.specs.History.{commits, registrations, live_frames, live_step, live, registered}
+use Rattle.lf_histories.specs.History.{patches, commits, registrations, live_frames, live_step, live, registered}
 use Rattle.lf_histories.specs.Legal.{is_frame_name, IsAllowed, IsLegal}
 use Rattle.lf_histories.specs.Replay.{dataset_at, newest_dataset, notices}
 
@@ -44,6 +46,21 @@ PatchLinesInAnyOrder =
     (history : List Operation) (seat seat2 : ℕ) (one two : Patch)
     → ((s : Signed) → has_line one.lines s ≡ has_line two.lines s)
     → newest_dataset (history ++ Commit seat one ∷ []) ≡ newest_dataset (history ++ Commit seat2 two ∷ [])
+
+-- two patch texts with the same lines, in whatever order and however often, make the same version; empty lines don't count
+abbrev pub PatchTextsInAnyOrder : Type 0
+PatchTextsInAnyOrder =
+    (history : List Operation) (seat seat2 : ℕ) (one two : Patch) (text text2 : List ℕ)
+    → IsPatchText text one.lines → IsPatchText text2 two.lines
+    → ((line : List ℕ) → line ≢ [] → has text_eq (lines_of text) line ≡ has text_eq (lines_of text2) line)
+    → newest_dataset (history ++ Commit seat one ∷ []) ≡ newest_dataset (history ++ Commit seat2 two ∷ [])
+
+-- an entry that commits no patch makes no version
+abbrev pub OnlyCommitsMakeVersions : Type 0
+OnlyCommitsMakeVersions =
+    (history : List Operation) (entry : Operation) → patches (entry ∷ []) ≡ []
+    → (commits (history ++ entry ∷ []) ≡ commits history)
+    × (newest_dataset (history ++ entry ∷ []) ≡ newest_dataset history)
 
 -- the text number of a registration after this history
 abbrev pub text_number : List Operation → ℕ
@@ -79,6 +96,19 @@ OthersStayLive =
     → (live (history ++ Register seat other text ∷ []) name ≡ live history name)
     × (live (history ++ Retire seat other ∷ []) name ≡ live history name)
     × (live (history ++ Commit seat patch ∷ []) name ≡ live history name)
+
+-- an entry registers the name
+abbrev pub registers : List ℕ → Operation → Bool
+registers name (Commit seat patch) = false
+registers name (Register seat other text) = text_eq name other
+registers name (Retire seat other) = false
+registers name (Publish other version) = false
+
+-- a name that isn't live, as none is before all entries, isn't live until it is registered
+abbrev pub AbsentUntilRegistered : Type 0
+AbsentUntilRegistered =
+    (history later : List Operation) (name : List ℕ) → live history name ≡ None
+    → IsTrue (list_all (λ entry. not (registers name entry)) later) → live (history ++ later) name ≡ None
 
 -- what is published of a live frame is of a version that was committed
 abbrev pub PublishedWasCommitted : Type 0

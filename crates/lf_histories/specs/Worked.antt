@@ -1,12 +1,14 @@
 -- Worked histories, which compute.
-use Rattle.std.specs.Prelude.{◌≡◌, refl, List, [], ◌∷◌, ℕ, Option, Some, None, true, codes}
-use Rattle.lf_rdf.specs.declared.term.Term.TheVariants.{Iri}
+use Rattle.std.specs.Prelude.{◌≡◌, refl, List, [], ◌∷◌, ℕ, Option, Some, None, true, false, codes}
+use Rattle.lf_rdf.specs.declared.term.Term.TheVariants.{Iri, Literal}
 use Rattle.lf_rdf.specs.declared.quad.Quad.{Quad}
 use Rattle.lf_rdf.specs.declared.quad.Patch.{Patch}
+use Rattle.lf_rdf.specs.Vocabulary.{xsd_string}
 use Rattle.lf_histories.specs.declared.live.Live.{Live}
 use Rattle.lf_histories.specs.declared.operation.Operation.{Operation}
 use Rattle.lf_histories.specs.declared.operation.Operation.TheVariants.{Commit, Register, Retire, Publish}
 use Rattle.lf_histories.specs.History.{commits, text_bytes, live_frames, live}
+use Rattle.lf_histories.specs.Legal.{is_frame_name, most_name}
 use Rattle.lf_histories.specs.Replay.{dataset_at, newest_dataset, notices}
 
 abbrev pub f : List ℕ
@@ -72,3 +74,55 @@ idle_dataset = refl
 
 pub first_dataset : dataset_at published 0 ≡ []
 first_dataset = refl
+
+-- the quad `<http://e/a> <http://e/p> "x" .`
+abbrev pub plain : Quad
+plain =
+    record { subject = Iri (codes "http://e/a"); predicate = Iri (codes "http://e/p"); object = Literal (codes "x") xsd_string None; graph = None }
+
+abbrev pub added : Patch
+added = record { lines = record { add = true; quad = plain } ∷ []; bytes = 32 }
+
+-- its deletion, and then its addition
+abbrev pub put_back : Patch
+put_back = record { lines = record { add = false; quad = plain } ∷ record { add = true; quad = plain } ∷ []; bytes = 68 }
+
+-- that patch and the empty one make a version each, with the same quad
+abbrev pub idle : List Operation
+idle = Commit 1 added ∷ Commit 1 put_back ∷ Commit 1 nothing ∷ []
+
+pub idle_count : commits idle ≡ 3
+idle_count = refl
+
+pub idle_first : dataset_at idle 1 ≡ plain ∷ []
+unfolding xsd_string
+idle_first = refl
+
+pub idle_second : dataset_at idle 2 ≡ plain ∷ []
+unfolding xsd_string
+idle_second = refl
+
+pub idle_third : dataset_at idle 3 ≡ plain ∷ []
+unfolding xsd_string
+idle_third = refl
+
+-- names have 1 to 64 characters
+pub name_of_none : is_frame_name [] ≡ false
+unfolding most_name
+name_of_none = refl
+
+pub name_of_one : is_frame_name (codes "a") ≡ true
+unfolding most_name
+name_of_one = refl
+
+pub name_of_64 : is_frame_name (codes "0123456789_ABCDEFGHIJKLMNOPQRSTUVWXYZ-abcdefghijklmnopqrstuvwxyz") ≡ true
+unfolding most_name
+name_of_64 = refl
+
+pub name_of_65 : is_frame_name (codes "0123456789_ABCDEFGHIJKLMNOPQRSTUVWXYZ-abcdefghijklmnopqrstuvwxyz0") ≡ false
+unfolding most_name
+name_of_65 = refl
+
+pub name_with_space : is_frame_name (codes "a b") ≡ false
+unfolding most_name
+name_with_space = refl

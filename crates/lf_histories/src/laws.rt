@@ -1,4 +1,4 @@
-ghost use Rattle.lf_histories.specs.HistoryLaws.{PrefixIsLegal, AllowedIsLegal, DatasetsStay, CommitMakesVersion, PatchLinesInAnyOrder, TextNumbersRise, LiveFramesStep, LiveOnceRegistered, GoneOnceRetired, OthersStayLive, PublishedWasCommitted, LiveIsNamed, PublishedIsLast};
+ghost use Rattle.lf_histories.specs.HistoryLaws.{PrefixIsLegal, AllowedIsLegal, DatasetsStay, CommitMakesVersion, PatchLinesInAnyOrder, PatchTextsInAnyOrder, OnlyCommitsMakeVersions, TextNumbersRise, LiveFramesStep, LiveOnceRegistered, GoneOnceRetired, OthersStayLive, AbsentUntilRegistered, PublishedWasCommitted, LiveIsNamed, PublishedIsLast};
 
 /// What a legal history begins with is legal.
 #[tactic(auto, using(crate::proofs::LegalProofs::prefix_is_legal))]
@@ -30,6 +30,17 @@ pub fn patch_lines_in_any_order()
     ensures { PatchLinesInAnyOrder }
 {}
 
+/// Two patch texts with the same lines, in whatever order, make the same version.
+pub fn patch_texts_in_any_order()
+    ensures { PatchTextsInAnyOrder }
+{}
+
+/// Entries other than commits make no version.
+#[tactic(auto, using(crate::proofs::LiveProofs::no_version))]
+pub fn only_commits_make_versions()
+    ensures { OnlyCommitsMakeVersions }
+{}
+
 /// A later registration has a greater text number.
 #[tactic(auto, using(crate::proofs::LiveProofs::text_numbers_rise))]
 pub fn text_numbers_rise()
@@ -58,6 +69,12 @@ pub fn gone_once_retired()
 #[tactic(auto, using(crate::proofs::LiveProofs::others_stay_live))]
 pub fn others_stay_live()
     ensures { OthersStayLive }
+{}
+
+/// A name that isn't live isn't live until it is registered.
+#[tactic(auto, using(crate::proofs::PublishedProofs::absent_until_registered))]
+pub fn absent_until_registered()
+    ensures { AbsentUntilRegistered }
 {}
 
 /// What is published of a live frame is of a version that was committed.

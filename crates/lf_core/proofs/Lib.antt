@@ -1,9 +1,8 @@
 pub mod FirstFrames
 pub mod Named
 pub mod Steps
-pub mod Allowed
+pub mod Few
 pub mod UnorderedProofs
 pub mod QuadLemmas
-pub mod AllowedPatch
 pub mod SmallOf
 pub mod Lone

@@ -1,6 +1,6 @@
--- A registration that is answered as new is allowed.
-use Rattle.std.proofs.Common.{◌≡◌, refl, sym, ◌∙◌, ap, ℕ, ◌+◌, ◌<◌, ◌≤◌, List, length, nat_lt, Bool, true, false, not, ◌||◌, cond, Some, Result, Ok, Err}
-use Rattle.std.proofs.lemmas.Bool.{false≢true, ltb-false, ltb-true}
+-- A registration is answered as new exactly where it is allowed and built so far, and as no operation where its text is live.
+use Rattle.std.proofs.Common.{◌≡◌, refl, sym, ◌∙◌, ap, ℕ, ◌+◌, ◌≤◌, List, length, nat_lt, Bool, true, false, not, cond, Some, Result, Ok, Err}
+use Rattle.std.proofs.lemmas.Bool.{false≢true, not-true, not-false, not_from_true, not_from_false, false_from_ne_true, ltb-false, ltb-true, lt-ltb, le-ltb}
 use Rattle.std.specs.Cmp.Lexicographic.{bytes_decides}
 use Rattle.lf_datasets.proofs.OrderLaws.{option_decides}
 use Rattle.lf_rdf.specs.Equality.{text_eq}
@@ -10,56 +10,108 @@ use Rattle.lf_histories.specs.History.{registrations, text_bytes}
 use Rattle.lf_histories.specs.Legal.{IsRegistration, is_frame_name, live_text, most_frame_bytes, most_frames, most_registrations, most_text_bytes}
 use Rattle.lf_desk.specs.Accepted.{is_first_frame, most_first_bytes, is_not_built}
 use Rattle.lf_desk.specs.RegisterAnswer.{register_answer, is_live_text, others, limits_answer}
+use Rattle.lf_desk.specs.AnswerLaws.{AcceptsAllowedFrames, SameTextAgain}
+use Rattle.lf_desk.proofs.Passing.{past, passed, neither}
 
 is_fresh : Result Bool RegisterErr → Bool
 is_fresh (Ok fresh) = fresh
 is_fresh (Err error) = false
 
-past : (b : Bool) (error : RegisterErr) (rest : Result Bool RegisterErr) → cond b (Err error) rest ≡ Ok true → (b ≡ false) × (rest ≡ Ok true)
-unfolding is_fresh
-past true error rest e = absurd (false≢true (ap is_fresh e))
-past false error rest e = (refl, e)
-
-past_same : (b : Bool) (rest : Result Bool RegisterErr) → cond b (Ok false) rest ≡ Ok true → (b ≡ false) × (rest ≡ Ok true)
+-- past the answer that the text is live already
+past_same : (same : Bool) (rest : Result Bool RegisterErr) → cond same (Ok false) rest ≡ Ok true → (same ≡ false) × (rest ≡ Ok true)
 unfolding is_fresh
 past_same true rest e = absurd (false≢true (ap is_fresh e))
 past_same false rest e = (refl, e)
 
-shown : (b : Bool) → not b ≡ false → b ≡ true
-shown true e = refl
-shown false e = sym e
+abbrev as_new : Result Bool RegisterErr
+as_new = Ok true
 
-neither : (a b : Bool) → (not a || b) ≡ false → (a ≡ true) × (b ≡ false)
-neither true b e = (refl, e)
-neither false b e = absurd (false≢true (sym e))
+-- the limits never answer that the text is live already
+limits_new : (history : List Operation) (name text : List ℕ) → limits_answer history name text ≡ Ok false → as_new ≡ Ok false
+limits_new history name text e =
+    let one = past (not (nat_lt (others history name) most_frames)) _ false _ e in
+    let two = past (not (nat_lt (registrations history) most_registrations)) _ false _ one.1 in
+    (past (nat_lt most_text_bytes (text_bytes history + length text)) _ false _ two.1).1
 
-pub allowed : (history : List Operation) (name text : List ℕ) → register_answer history name text ≡ Ok true
-    → IsRegistration is_first_frame history name text × (text_bytes history + length text ≤ most_first_bytes)
-allowed history name text fresh =
-    let one = past (not (is_frame_name name)) _ _ fresh in
-    let two = past (nat_lt most_frame_bytes (length text)) _ _ one.1 in
+is_same : (same : Bool) (rest : Result Bool RegisterErr) → (rest ≡ Ok false → as_new ≡ Ok false)
+    → cond same (Ok false) rest ≡ Ok false → same ≡ true
+unfolding is_fresh
+is_same true rest new e = refl
+is_same false rest new e = absurd (false≢true (sym (ap is_fresh (new e))))
+
+live_decides : (history : List Operation) (name text : List ℕ) → is_live_text history name text ≡ true → live_text history name ≡ Some text
+live_decides history name text same = (option_decides text_eq bytes_decides (live_text history name) (Some text)).0 same
+
+live_told : (history : List Operation) (name text : List ℕ) → live_text history name ≡ Some text → is_live_text history name text ≡ true
+live_told history name text same = (option_decides text_eq bytes_decides (live_text history name) (Some text)).1 same
+
+-- what an answer as new tells
+pub record AcceptedFrame (history : List Operation) (name text : List ℕ) : Type 0 where
+  pub built : is_not_built history text ≡ false
+  pub may : IsRegistration is_first_frame history name text
+
+pub accepted : (history : List Operation) (name text : List ℕ) → register_answer history name text ≡ Ok true → AcceptedFrame history name text
+accepted history name text fresh =
+    let one = past (not (is_frame_name name)) _ true _ fresh in
+    let two = past (nat_lt most_frame_bytes (length text)) _ true _ one.1 in
     let three = past_same (is_live_text history name text) _ two.1 in
-    let four = past (is_not_built history text) _ (limits_answer history name text) three.1 in
-    let five = past (not (nat_lt (others history name) most_frames)) _ _ four.1 in
-    let six = past (not (nat_lt (registrations history) most_registrations)) _ _ five.1 in
-    let seven = past (nat_lt most_text_bytes (text_bytes history + length text)) _ _ six.1 in
-    let built = neither (is_first_frame text) (nat_lt most_first_bytes (text_bytes history + length text)) four.0 in (
-      record {
-        named = shown (is_frame_name name) one.0;
-        short = ltb-false most_frame_bytes (length text) two.0;
-        framed = built.0;
-        other = λ same. false≢true (sym three.0 ∙ (option_decides text_eq bytes_decides (live_text history name) (Some text)).1 same);
-        placed = ltb-true (others history name) most_frames (shown (nat_lt (others history name) most_frames) five.0);
-        counted = ltb-true (registrations history) most_registrations (shown (nat_lt (registrations history) most_registrations) six.0);
-        sized = ltb-false most_text_bytes (text_bytes history + length text) seven.0;
-      },
-      ltb-false most_first_bytes (text_bytes history + length text) built.1,
-    )
+    let four = past (is_not_built history text) _ true (limits_answer history name text) three.1 in
+    let five = past (not (nat_lt (others history name) most_frames)) _ true _ four.1 in
+    let six = past (not (nat_lt (registrations history) most_registrations)) _ true _ five.1 in
+    let seven = past (nat_lt most_text_bytes (text_bytes history + length text)) _ true _ six.1 in
+    record {
+      built = four.0;
+      may =
+          record {
+            named = not-false (is_frame_name name) one.0;
+            short = ltb-false most_frame_bytes (length text) two.0;
+            framed = (neither (is_first_frame text) (nat_lt most_first_bytes (text_bytes history + length text)) four.0).0;
+            other = λ same. false≢true (sym three.0 ∙ live_told history name text same);
+            placed = ltb-true (others history name) most_frames (not-false (nat_lt (others history name) most_frames) five.0);
+            counted = ltb-true (registrations history) most_registrations (not-false (nat_lt (registrations history) most_registrations) six.0);
+            sized = ltb-false most_text_bytes (text_bytes history + length text) seven.0;
+          };
+    }
 
-pub few_registrations : (n : ℕ) → n < most_registrations → n < 65536
-unfolding most_registrations
-few_registrations n low = low
+-- the texts stay few
+pub few_texts : (history : List Operation) (text : List ℕ) → is_not_built history text ≡ false → text_bytes history + length text ≤ most_first_bytes
+few_texts history text built =
+    ltb-false most_first_bytes (text_bytes history + length text)
+    (neither (is_first_frame text) (nat_lt most_first_bytes (text_bytes history + length text)) built).1
 
-pub few_bytes : (n : ℕ) → n ≤ most_first_bytes → n ≤ 65536
-unfolding most_first_bytes
-few_bytes n low = low
+pub accepts_allowed_frames : AcceptsAllowedFrames
+accepts_allowed_frames history seat name text = (
+  λ e. let told = accepted history name text e in (not_from_false (is_not_built history text) told.built, told.may),
+  λ both.
+      passed (not (is_frame_name name)) _ _ (not_from_true (is_frame_name name) both.1.named)
+      ∙ (passed (nat_lt most_frame_bytes (length text)) _ _ (le-ltb most_frame_bytes (length text) both.1.short)
+      ∙ (passed (is_live_text history name text) _ _
+      (false_from_ne_true (is_live_text history name text) (λ same. both.1.other (live_decides history name text same)))
+      ∙ (passed (is_not_built history text) _ _ (not-true (is_not_built history text) both.0)
+      ∙ (passed (not (nat_lt (others history name) most_frames)) _ _
+      (not_from_true (nat_lt (others history name) most_frames) (lt-ltb (others history name) most_frames both.1.placed))
+      ∙ (passed (not (nat_lt (registrations history) most_registrations)) _ _
+      (not_from_true (nat_lt (registrations history) most_registrations) (lt-ltb (registrations history) most_registrations both.1.counted))
+      ∙ passed (nat_lt most_text_bytes (text_bytes history + length text)) _ _
+      (le-ltb most_text_bytes (text_bytes history + length text) both.1.sized)))))),
+)
+
+pub same_text_again : SameTextAgain
+same_text_again history name text = (
+  λ e.
+      let one = past (not (is_frame_name name)) _ false _ e in
+      let two = past (nat_lt most_frame_bytes (length text)) _ false _ one.1 in (
+        not-false (is_frame_name name) one.0,
+        ltb-false most_frame_bytes (length text) two.0,
+        live_decides history name text
+            (is_same (is_live_text history name text) _
+            (λ rest. limits_new history name text (past (is_not_built history text) _ false (limits_answer history name text) rest).1) two.1),
+      ),
+  λ all.
+      passed (not (is_frame_name name)) _ _ (not_from_true (is_frame_name name) all.0)
+      ∙ (passed (nat_lt most_frame_bytes (length text)) _ _ (le-ltb most_frame_bytes (length text) all.1) ∙ again all.2),
+)
+  where
+    again : live_text history name ≡ Some text
+        → cond (is_live_text history name text) (Ok false) (cond (is_not_built history text) (Err RegisterErr.NotBuilt) (limits_answer history name text)) ≡ Ok false
+    again live = rw (live_told history name text live) refl

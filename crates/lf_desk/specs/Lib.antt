@@ -5,3 +5,5 @@ pub mod Document
 pub mod Looks
 pub mod Seats
 pub mod Calls
+pub mod AnswerLaws
+pub mod WorkedAnswers

@@ -12,7 +12,8 @@ use lf_rdf::Patch;
 use std::alloc::Global;
 
 /// A caller's place at a history. After each call the history is legal and goes on from the one before. What is new in
-/// it with the seat's number is the operation that the call made, as its last entry.
+/// it with the seat's number is the operation that the call made, as its last entry. Each answer is a function of the
+/// history without that entry. A refusal makes no operation, and `Memory` may be answered at any time.
 pub trait Desk {
     /// No other seat makes operations, and nothing is published by others.
     ghost alone: { Self → Bool };
@@ -23,14 +24,19 @@ pub trait Desk {
     /// The history that the seat has seen.
     ghost history: { Self → List Operation };
 
-    /// Commits a patch as the next version, and gives its number.
+    /// Commits a patch as the next version, also where it changes nothing, and gives the version's number. The refusals
+    /// in their order: `NotBuilt`, where a quad isn't of the first form or all texts together would have more than
+    /// 65,536 bytes; `HistoryFull` of commits (65,536) or of bytes (268,435,456); `TooManyQuads` (400,000).
     fn commit(&mut self, alloc: Global, patch: Patch) -> Result<u64, CommitErr>
         ensures call { IsCall (alone self.old) (seat self.old) (history self.old) (history self.new)
             (committed_by (seat self.old) patch result) (λ seen. CommitAnswers result (commit_answer seen patch)) }
         ensures same_seat { seat self.new ≡ seat self.old }
         ensures same_alone { alone self.new ≡ alone self.old };
 
-    /// Registers a frame's text under a name. Answers false where the text is live there already.
+    /// Registers a frame's text under a name. Answers false where the text is live there already, and then makes no
+    /// operation. `BadName` and `FrameTooLong` (65,536 bytes) come before that answer, and the other refusals behind it,
+    /// in this order: `NotBuilt`, where the text isn't of the first form or all texts together would have more than
+    /// 65,536 bytes; `TooManyFrames` (16 others); `HistoryFull` of registrations (65,536) or of bytes (268,435,456).
     fn register(&mut self, alloc: Global, name: &str, text: &str) -> Result<bool, RegisterErr>
         ensures call { IsCall (alone self.old) (seat self.old) (history self.old) (history self.new)
             (registered_by (seat self.old) name.now text.now result)
@@ -38,7 +44,7 @@ pub trait Desk {
         ensures same_seat { seat self.new ≡ seat self.old }
         ensures same_alone { alone self.new ≡ alone self.old };
 
-    /// Ends a frame. Answers false exactly where no frame is live under the name.
+    /// Ends a frame. Answers false exactly where no frame is live under the name, and then makes no operation.
     fn retire(&mut self, alloc: Global, name: &str) -> Result<bool, Memory>
         ensures call { IsCall (alone self.old) (seat self.old) (history self.old) (history self.new)
             (retired_by (seat self.old) name.now result) (λ seen. Retires seen name.now result) }
@@ -52,7 +58,9 @@ pub trait Desk {
         ensures same_seat { seat self.new ≡ seat self.old }
         ensures same_alone { alone self.new ≡ alone self.old };
 
-    /// What stands at a name for a caller that needs a version. Only in place of a document may no memory be found.
+    /// What stands at a name for a caller that needs a version: `Unknown` exactly where no frame is live under it,
+    /// `Pending` exactly where its published version is none or below the needed one, else the published document.
+    /// `Memory` comes only in place of a document.
     fn look(&mut self, alloc: Global, name: &str, need: u64) -> Result<Look, Memory>
         ensures call { IsCall (alone self.old) (seat self.old) (history self.old) (history self.new) []
             (λ seen. Looks seen name.now need result) }

@@ -2,7 +2,12 @@
 #![tactic(auto)]
 
 mod desk;
+mod laws;
 mod name;
 
 pub use desk::Desk;
+pub use laws::{
+    accepts_allowed_frames, accepts_allowed_patches, accepts_first_frames,
+    documents_of_first_frames, same_text_again,
+};
 pub use name::is_frame_name;

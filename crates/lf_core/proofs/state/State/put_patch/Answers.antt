@@ -2,26 +2,26 @@ use Rattle.std.proofs.Common.{rules, ◌∙◌, ap, suc, ◌+◌, List, arith}
 use Rattle.lf_histories.specs.declared.operation.Operation.{Operation}
 use Rattle.lf_histories.specs.History.{commits, text_bytes}
 use Rattle.lf_desk.specs.CommitAnswer.{commit_answer}
-use Rattle.lf_core.proofs.Allowed.{few_bytes}
-use Rattle.lf_core.proofs.AllowedPatch.{allowed_patch, few_commits}
+use Rattle.lf_desk.proofs.PatchAnswers.{accepted, few_texts}
+use Rattle.lf_core.proofs.Few.{few_bytes, few_commits}
 use Rattle.lf_core.proofs.Steps.{committed}
 use Rattle.lf_core.proofs.state.State.put_patch.Goals as goal
 
 pub overflow_add-self : goal.overflow_add-self
 overflow_add-self c =
-    let may = allowed_patch c.self.inside.history.items c.args.patch (suc (commits c.args.self.now))
+    let told = accepted c.self.inside.history.items c.args.patch (suc (commits c.args.self.now))
     (ap (λ (h : List Operation). commit_answer h c.args.patch) c.self.view_is ∙ c.requires.fresh) in
-    omega (arith, few_commits (commits c.self.inside.history.items) may.0.counted, c.self.invariant.counts_versions)
+    omega (arith, few_commits (commits c.self.inside.history.items) told.may.counted, c.self.invariant.counts_versions)
 
 pub overflow_add-self-2 : goal.overflow_add-self-2
 overflow_add-self-2 c =
-    let may = allowed_patch c.self.inside.history.items c.args.patch (suc (commits c.args.self.now))
+    let told = accepted c.self.inside.history.items c.args.patch (suc (commits c.args.self.now))
     (ap (λ (h : List Operation). commit_answer h c.args.patch) c.self.view_is ∙ c.requires.fresh) in
-    omega (arith, few_bytes (text_bytes c.self.inside.history.items + c.args.patch.bytes) may.1, c.self.invariant.counts_bytes)
+    omega (arith, few_bytes (text_bytes c.self.inside.history.items + c.args.patch.bytes) (few_texts c.self.inside.history.items c.args.patch told.built), c.self.invariant.counts_bytes)
 
 pub invariant_of-self-2 : goal.invariant_of-self-2
 invariant_of-self-2 c =
-    let may = allowed_patch c.self.inside.history.items c.args.patch (suc (commits c.args.self.now))
+    let told = accepted c.self.inside.history.items c.args.patch (suc (commits c.args.self.now))
     (ap (λ (h : List Operation). commit_answer h c.args.patch) c.self.view_is ∙ c.requires.fresh) in
-    committed _ _ _ _ _ _ _ c.args.seat c.args.patch _ _ _ c.self.invariant may.0 may.1
+    committed _ _ _ _ _ _ _ c.args.seat c.args.patch _ _ _ c.self.invariant told.may (few_texts c.self.inside.history.items c.args.patch told.built)
     (search rules) (search rules) (search rules)

@@ -1,7 +1,8 @@
 use crate::{CoreDesk, State};
-use lf_base::{Memory, Text};
+use lf_base::{Memory, Text, TryCopy};
 use lf_desk::Desk;
-use lf_model::{CommitErr, Doc, FramedNow, Look, RegisterErr};
+use lf_histories::{Operation, OperationList};
+use lf_model::{CommitErr, Counted, Doc, FramedNow, Look, RegisterErr};
 use lf_rdf::{Patch, Quad, Signed, SignedList, Term};
 use std::alloc::Global;
 use std::test::Fail;
@@ -98,20 +99,45 @@ fn first_session(rt: HostRuntime) -> Result<(), Fail> {
 }
 
 #[test]
-fn idle_commits_make_versions(rt: HostRuntime) -> Result<(), Fail> {
+fn idle_commits(rt: HostRuntime) -> Result<(), Fail> {
     let alloc = rt.alloc();
     let mut desk = desk(alloc)?;
     assert!(rt; desk.newest() == 0 && is_new(alloc, &mut desk, "a", ALL));
-    let first = patch(alloc, &[true, true], None, 64)?;
+    let first = patch(alloc, &[true], None, 32)?;
     assert!(rt; matches!(desk.commit(alloc, first), Ok(1)));
-    let both = patch(alloc, &[true, false], None, 68)?;
-    assert!(rt; matches!(desk.commit(alloc, both), Ok(2)));
+    let put_back = patch(alloc, &[false, true], None, 68)?;
+    assert!(rt; matches!(desk.commit(alloc, put_back), Ok(2)));
+    assert!(rt; is_document(&desk.frame_now(alloc, "a")?, 2, DOCUMENT));
     let empty = patch(alloc, &[], None, 0)?;
     assert!(rt; matches!(desk.commit(alloc, empty), Ok(3)));
     assert!(rt; is_document(&desk.frame_now(alloc, "a")?, 3, DOCUMENT));
     let away = patch(alloc, &[false], None, 34)?;
     assert!(rt; matches!(desk.commit(alloc, away), Ok(4)) && desk.newest() == 4);
     assert!(rt; is_document(&desk.frame_now(alloc, "a")?, 4, ALL));
+    Ok(())
+}
+
+#[test]
+fn history_full(rt: HostRuntime) -> Result<(), Fail> {
+    let alloc = rt.alloc();
+    let mut desk = desk(alloc)?;
+    for _ in 0..65_536 {
+        let empty = patch(alloc, &[], None, 0)?;
+        assert!(rt; desk.commit(alloc, empty).is_ok());
+    }
+    let one_more = patch(alloc, &[], None, 0)?;
+    let refused = desk.commit(alloc, one_more);
+    assert!(rt;
+        matches!(
+            refused,
+            Err(CommitErr::HistoryFull {
+                of: Counted::Commits,
+                have: 65_536,
+                limit: 65_536
+            })
+        )
+    );
+    assert!(rt; desk.newest() == 65_536);
     Ok(())
 }
 
@@ -175,5 +201,30 @@ fn too_many_frames(rt: HostRuntime) -> Result<(), Fail> {
     );
     assert!(rt; matches!(desk.register(alloc, "p", ALL), Ok(false)));
     assert!(rt; !desk.retire(alloc, "q")?);
+    Ok(())
+}
+
+#[test]
+fn operations_are_copied(rt: HostRuntime) -> Result<(), Fail> {
+    let alloc = rt.alloc();
+    let mut made = OperationList::new(alloc);
+    made.push(Operation::Commit {
+        seat: 1,
+        patch: patch(alloc, &[true], None, 32)?,
+    })?;
+    made.push(Operation::Register {
+        seat: 1,
+        name: Text::of(alloc, "a")?,
+        text: Text::of(alloc, ALL)?,
+    })?;
+    made.push(Operation::Publish {
+        name: Text::of(alloc, "a")?,
+        version: 1,
+    })?;
+    made.push(Operation::Retire {
+        seat: 1,
+        name: Text::of(alloc, "a")?,
+    })?;
+    assert!(rt; made.copy(alloc)?.len() == 4);
     Ok(())
 }

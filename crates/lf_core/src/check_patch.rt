@@ -108,13 +108,8 @@ pub fn check_commit(alloc: Global, state: &State, patch: &Patch) -> Result<Vec<Q
     if is_patch_not_built(state, patch) {
         return Err(CommitErr::NotBuilt);
     }
-    match check_limits(state, patch.bytes) {
-        Ok(()) => (),
-        Err(error) => return Err(error),
-    }
+    check_limits(state, patch.bytes)?;
     let quads = entering(alloc, state, patch.lines.as_slice())?;
-    match check_quads(state, patch.lines.as_slice(), quads.as_slice()) {
-        Ok(()) => Ok(quads),
-        Err(error) => Err(error),
-    }
+    check_quads(state, patch.lines.as_slice(), quads.as_slice())?;
+    Ok(quads)
 }

@@ -174,7 +174,9 @@ impl State {
         kept_count(self.quads.as_slice(), lines)
     }
 
-    /// Registers a frame's text under a name. Answers false where the text is live there already.
+    /// Registers a frame's text under a name, and takes the place of the entry that its retirement will make. Answers
+    /// false where the text is live there already. The refusals are those of `Desk::register`, in its order; they and
+    /// `Memory` leave the state as it was.
     pub fn register(
         &mut self,
         alloc: Global,
@@ -210,16 +212,14 @@ impl State {
         Ok(())
     }
 
-    /// Commits a patch as the next version, also where it changes nothing, and gives the version's number. Its time grows
-    /// as the lines of the patch times the quads of the version and the lines.
+    /// Commits a patch as the next version, also where it changes nothing, and gives the version's number. The refusals
+    /// are those of `Desk::commit`, in its order; they and `Memory` leave the state as it was. Its time grows as the
+    /// lines of the patch times the quads of the version and the lines.
     pub fn commit(&mut self, alloc: Global, seat: u64, patch: Patch) -> Result<u64, CommitErr>
         ensures answer { CommitAnswers result (commit_answer self.old patch) }
         ensures entry { self.new ≡ self.old ++ committed_by seat patch result }
     {
-        let quads = match check_commit(alloc, self, &patch) {
-            Ok(quads) => quads,
-            Err(error) => return Err(error),
-        };
+        let quads = check_commit(alloc, self, &patch)?;
         self.put_patch(alloc, seat, patch, quads)?;
         Ok(self.versions)
     }

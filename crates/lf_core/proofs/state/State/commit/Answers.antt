@@ -6,7 +6,7 @@ use Rattle.lf_core.proofs.state.State.commit.Goals as goal
 
 pub returns-clause-answer : goal.returns-clause-answer
 returns-clause-answer c =
-    c.in-Ok.ensures.accepted
+    c.in_ok-quads.ensures.accepted
     ∙ ap {B = Result ℕ CommitErr} Ok
     (sym (c.self.invariant.counts_versions
     ∙ (ap commits (c.self.view_is ∙ c.in_ok-put_patch.ensures.ok)

@@ -33,7 +33,8 @@ impl MemoryShelf {
 }
 
 impl Shelf for MemoryShelf {
-    ghost use Rattle.lf_io.specs.Calls.{call_faults, fails_next};
+    ghost use Rattle.lf_io.specs.Calls.{call_faults, calls_made, failing_calls, fails_next};
+    ghost use Rattle.lf_io.specs.Faults.{risen};
     ghost use Rattle.lf_io.specs.Files.{MayHold, is_there, count_after_take, refusals_after_take};
     ghost use Rattle.lf_io.specs.MemoryFiles.{by_name, shelf_files, shelf_calls, shelf_refusals};
 
@@ -47,6 +48,11 @@ impl Shelf for MemoryShelf {
         // It fails exactly where this call is one that fails or no file has the name.
         ensures fails { IsErrOf result ShelfErr.Failed
             ↔ IsTrue (fails_next (shelf_calls self.old) || is_none (by_name (shelf_files self.old) name.now)) }
+        // Memory is wanted only for a file that is there and within the limit.
+        ensures memory { IsErrOf result ShelfErr.Memory
+            → (bytes : List ℕ) × (by_name (shelf_files self.old) name.now ≡ Some bytes) × (length bytes ≤ limit) }
+        ensures made { calls_made (shelf_calls self.new) ≡ risen (calls_made (shelf_calls self.old)) }
+        ensures same_calls { failing_calls (shelf_calls self.new) ≡ failing_calls (shelf_calls self.old) }
 
         // What a shelf ensures.
         ensures bytes { IfOk result (λ taken. MayHold (Some (by_name (shelf_files self.old))) name.now taken.items) }

@@ -47,8 +47,8 @@ impl MemorySink {
 
 impl Sink for MemorySink {
     ghost use Rattle.lf_io.specs.Bytes.{appended};
-    ghost use Rattle.lf_io.specs.Calls.{call_faults, fails_next};
-    ghost use Rattle.lf_io.specs.Faults.{count_after};
+    ghost use Rattle.lf_io.specs.Calls.{call_faults, calls_made, failing_calls, fails_next};
+    ghost use Rattle.lf_io.specs.Faults.{count_after, risen};
     ghost use Rattle.lf_io.specs.Memory.{bytes_held, room_of, sink_calls, sink_piece, piece_fits};
 
     ghost held = { λ s. Some s.bytes.items };
@@ -61,6 +61,8 @@ impl Sink for MemorySink {
         ensures piece { IfOk result (λ n. n ≡ min (min (sink_piece self.old) (length bytes.now)) (room_of self.old - length (bytes_held self.old))) }
         ensures same_piece { sink_piece self.new ≡ sink_piece self.old }
         ensures same_room { room_of self.new ≡ room_of self.old }
+        ensures made { calls_made (sink_calls self.new) ≡ risen (calls_made (sink_calls self.old)) }
+        ensures same_calls { failing_calls (sink_calls self.new) ≡ failing_calls (sink_calls self.old) }
 
         // What a sink ensures.
         ensures within { IfOk result (λ n. n ≤ length bytes.now) }

@@ -37,8 +37,8 @@ impl MemorySource {
 
 impl Source for MemorySource {
     ghost use Rattle.lf_io.specs.Bytes.{prepended, HasEnded};
-    ghost use Rattle.lf_io.specs.Calls.{call_faults, fails_next};
-    ghost use Rattle.lf_io.specs.Faults.{count_after};
+    ghost use Rattle.lf_io.specs.Calls.{call_faults, calls_made, failing_calls, fails_next};
+    ghost use Rattle.lf_io.specs.Faults.{count_after, risen};
     ghost use Rattle.lf_io.specs.Memory.{bytes_left, bytes_taken, source_calls, source_piece};
 
     ghost left = { λ s. Some (drop s.taken s.bytes.items) };
@@ -52,6 +52,8 @@ impl Source for MemorySource {
         ensures fails { IsErr result ↔ IsTrue (fails_next (source_calls self.old)) }
         ensures piece { IfOk result (λ n. n ≡ min (min (source_piece self.old) (length buf.new)) (length (bytes_left self.old))) }
         ensures same_piece { source_piece self.new ≡ source_piece self.old }
+        ensures made { calls_made (source_calls self.new) ≡ risen (calls_made (source_calls self.old)) }
+        ensures same_calls { failing_calls (source_calls self.new) ≡ failing_calls (source_calls self.old) }
 
         // What a source ensures.
         ensures within { IfOk result (λ n. n ≤ length buf.new) }

@@ -1,8 +1,8 @@
-ghost use Rattle.std.specs.Prelude.{◌≡◌, ◌<◌, ◌≤◌, ℕ, List, length, Option, Some, IfOk, IsErrOf, vec_len};
-ghost use Rattle.lf_io.specs.declared.shelf.ShelfErr.TheVariants.{Failed, TooLong, Memory};
+ghost use Rattle.std.specs.Prelude.{◌≡◌, ◌<◌, ◌≤◌, ℕ, List, length, Option, IfOk, IsErrOf};
+ghost use Rattle.lf_io.specs.declared.shelf.ShelfErr.TheVariants.{Memory};
 ghost use Rattle.lf_io.specs.Files.{Files, MayHold, is_there, count_after_take, refusals_after_take};
 
-use std::alloc::{AllocError, AllocFailed, Global};
+use std::alloc::{AllocError, Global};
 
 /// Why a file wasn't taken.
 #[derive(Clone, Copy, Debug, PartialEq, Eq)]
@@ -13,14 +13,6 @@ pub enum ShelfErr {
     TooLong,
     /// No memory was found.
     Memory,
-}
-
-impl From<lf_base::Memory> for ShelfErr {
-    ghost from_gives = { λ _ e. e ≡ Memory };
-
-    fn from(_: lf_base::Memory) -> ShelfErr {
-        ShelfErr::Memory
-    }
 }
 
 impl From<AllocError> for ShelfErr {

@@ -208,3 +208,64 @@ not_beyond h k same (short, few) (inl longer) =
 not_beyond h k same (short, few) (inr more) =
     let other : length h.fields ≡ length k.fields = ap (λ (x : RequestHead). length x.fields) same in
     omega arith
+
+last_none : (front bytes : List ℕ) → [] ≡ front ++ bytes → bytes ≡ []
+last_none [] bytes is = sym is
+last_none (b ∷ front) bytes is = absurd cc
+
+-- where a part of a head within the limits is all that there is, that is the cause
+only_cut : (bytes more lacking : List ℕ) (h : RequestHead) (e : HeadErr)
+    → ReadsRequest (bytes ++ (more ++ lacking)) h [] → length (print_request h) ≤ 16384 → length h.fields ≤ 64
+    → (e ≡ ReadFault → ⊥) → LacksHead bytes (Some more) e → e ≡ CutShort
+only_cut bytes more lacking h ReadFault reads short few read lacks = absurd (read refl)
+only_cut bytes more lacking h CutShort reads short few read lacks = refl
+only_cut bytes more lacking h TooLarge reads short few read lacks =
+    absurd (not_lacking bytes (more ++ lacking) [] h TooLarge reads short few read lacks)
+only_cut bytes more lacking h BadHead reads short few read lacks =
+    absurd (not_lacking bytes (more ++ lacking) [] h BadHead reads short few read lacks)
+only_cut bytes more lacking h LengthNeeded reads short few read lacks = absurd lacks
+only_cut bytes more lacking h BodyTooLong reads short few read lacks = absurd lacks
+only_cut bytes more lacking h Expectation reads short few read lacks = absurd lacks
+
+found-cut : (stream bytes more lacking : List ℕ) (h : RequestHead) (e : HeadErr)
+    → stream ≡ bytes ++ more → ReadsRequest (stream ++ lacking) h [] → (lacking ≡ [] → ⊥)
+    → length (print_request h) ≤ 16384 → length h.fields ≤ 64
+    → (e ≡ ReadFault → ⊥) → IsRefused bytes (Some more) e → e ≡ CutShort
+found-cut stream bytes more lacking h e is reads some short few read refused = by refused
+  where
+    here : ReadsRequest (bytes ++ (more ++ lacking)) h []
+    here =
+        subst (λ (all : List ℕ). ReadsRequest all h [])
+        (ap (λ (all : List ℕ). all ++ lacking) is ∙ append_assoc bytes more lacking) reads
+
+    by : IsRefused bytes (Some more) e → e ≡ CutShort
+    by (inl lacks) = only_cut bytes more lacking h e here short few read lacks
+    by (inr (k, behind, reads_k, why)) =
+        absurd (some (last_none more lacking (sym (last_none behind (more ++ lacking)
+        (request_unique (bytes ++ (more ++ lacking)) h k [] (behind ++ (more ++ lacking)) here
+        (ReadsRequest-append bytes k behind (more ++ lacking) reads_k)).1))))
+
+pub cut_is : (stream lacking bytes : List ℕ) (left : Option (List ℕ)) (h : RequestHead) (e : HeadErr)
+    → Some stream ≡ prepended bytes left → ReadsRequest (stream ++ lacking) h [] → (lacking ≡ [] → ⊥)
+    → length (print_request h) ≤ 16384 → length h.fields ≤ 64
+    → (e ≡ ReadFault → ⊥) → IsRefused bytes left e → e ≡ CutShort
+cut_is stream lacking bytes None h e is reads some short few read refused = absurd (none-some stream (sym is))
+cut_is stream lacking bytes (Some more) h e is reads some short few read refused =
+    found-cut stream bytes more lacking h e (some-injective stream (bytes ++ more) is) reads some short few read refused
+
+-- a part of a head holds no whole one
+pub no_whole : (stream lacking bytes : List ℕ) (left : Option (List ℕ)) (h k : RequestHead)
+    → Some stream ≡ prepended (print_request k ++ bytes) left → IsRequestHead k
+    → ReadsRequest (stream ++ lacking) h [] → (lacking ≡ [] → ⊥) → ⊥
+no_whole stream lacking bytes None h k is valid reads some = none-some stream (sym is)
+no_whole stream lacking bytes (Some more) h k is valid reads some =
+    some (last_none (bytes ++ more) lacking (sym
+    (found-head (stream ++ lacking) [] (bytes ++ more) lacking h k valid
+    (ap (λ (all : List ℕ). all ++ lacking)
+    (some-injective stream ((print_request k ++ bytes) ++ more) is ∙ append_assoc (print_request k) bytes more))
+    reads).1))
+
+-- where the input has ended and no bytes are pending, there were none
+pub none_told : (stream : List ℕ) (left : Option (List ℕ)) → Some stream ≡ left → HasEnded left → stream ≡ []
+none_told stream None is ended = absurd (none-some stream (sym is))
+none_told stream (Some more) is ended = some-injective stream more is ∙ ended

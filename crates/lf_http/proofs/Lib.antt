@@ -4,4 +4,5 @@ pub mod Found
 pub mod Lists
 pub mod Names
 pub mod Powers
+pub mod Streams
 pub mod Whole

@@ -25,7 +25,7 @@ IsBeyond h = (longest_head < length (print_request h)) ⊎ (most_lines < length 
 -- why no head within the limits stands before what is left, where these bytes came
 abbrev pub LacksHead : List ℕ → Option (List ℕ) → HeadErr → Type 0
 LacksHead bytes left ReadFault = HasNoRequest bytes
-LacksHead bytes left CutShort = (bytes ≡ [] → ⊥) × HasNoRequest bytes × HasEnded left
+LacksHead bytes left CutShort = (bytes ≡ [] → ⊥) × HasNoRequest bytes × HasEnded left × (length bytes < longest_head)
 LacksHead bytes left TooLarge =
     ((length bytes ≡ longest_head) × HasNoRequest bytes) ⊎ (RequestExceeds most_lines bytes × RequestOverflows most_lines bytes)
 LacksHead bytes left BadHead = NeverHasRequest bytes

@@ -1,6 +1,6 @@
-ghost use Rattle.std.specs.Prelude.{◌≡◌, ◌++◌, ◌∷◌, ◌≤◌, [], length, map, All, true};
-ghost use Rattle.httparse.specs.Spans.{IsHeaderWithin, header_bytes, span_bytes};
-ghost use Rattle.lf_http.specs.Fields.{same_name, values, lower};
+ghost use Rattle.std.specs.Prelude.{◌≡◌, ◌≤◌, length, map};
+ghost use Rattle.httparse.specs.Spans.{header_bytes, span_bytes};
+ghost use Rattle.lf_http.specs.Fields.{same_name, values};
 
 use arrayvec::ArrayVec;
 use httparse::spans::{HeaderSpan, Span};

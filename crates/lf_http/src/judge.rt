@@ -1,9 +1,9 @@
-ghost use Rattle.std.specs.Prelude.{◌≡◌, ◌≤◌, ℕ, length, map, take, not, nat_lt, codes};
+ghost use Rattle.std.specs.Prelude.{◌≡◌, ◌≤◌, ℕ, length, map};
 ghost use Rattle.std.specs.List.{list_all, list_any};
 ghost use Rattle.httparse.specs.Grammar.{RequestHead};
 ghost use Rattle.httparse.specs.Spans.{header_bytes, span_bytes, IsRequestAt};
-ghost use Rattle.lf_http.specs.Fields.{is_number, number, greatest, has_word, values};
-ghost use Rattle.lf_http.specs.Judge.{method_of, target_of, first_number, judged, is_text, is_bad, needs_length, has_body, head_of, request_of, request_at, line_values, has_line, told_length};
+ghost use Rattle.lf_http.specs.Fields.{is_number, values};
+ghost use Rattle.lf_http.specs.Judge.{method_of, target_of, judged, is_text, is_bad, needs_length, has_body, head_of, request_of, request_at, told_length};
 ghost use Rattle.lf_http.specs.Reading.{count_after_head};
 
 use crate::field::{Values, bytes_of, values_of};

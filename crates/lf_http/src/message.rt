@@ -74,6 +74,11 @@ pub fn read_head<S: Source>(source: &mut S, buffers: &mut Buffers) -> Result<Opt
     ensures large { (h : RequestHead) (told rest : List ℕ) → S.left source.old ≡ Some told
         → ReadsRequest (buffers.old.pending ++ told) h rest → IsBeyond h
         → (result ≡ Err HeadErr.ReadFault → ⊥) → result ≡ Err HeadErr.TooLarge }
+    // One that is cut is cut short: it lacks some bytes, and nothing is left behind the part that came.
+    ensures cut { (h : RequestHead) (told lacking : List ℕ) → S.left source.old ≡ Some told
+        → (buffers.old.pending ++ told ≡ [] → ⊥) → (lacking ≡ [] → ⊥) → ReadsRequest ((buffers.old.pending ++ told) ++ lacking) h []
+        → length (print_request h) ≤ 16384 → length h.fields ≤ 64
+        → (result ≡ Err HeadErr.ReadFault → ⊥) → result ≡ Err HeadErr.CutShort }
     ensures rest { (h : RequestHead) (told rest : List ℕ) → S.left source.old ≡ Some told
         → ReadsRequest (buffers.old.pending ++ told) h rest → OnOk result (prepended buffers.new.pending (S.left source.new) ≡ Some rest) }
 

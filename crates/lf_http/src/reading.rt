@@ -1,4 +1,4 @@
-ghost use Rattle.std.specs.Prelude.{◌≡◌, ◌+◌, ◌<◌, ◌≤◌, ℕ, List, Option, [], length, take, vec_capacity, Ok, Err, None, IfOk, IfErr, IfSome, OnOk, OnErr};
+ghost use Rattle.std.specs.Prelude.{◌≡◌, ◌+◌, ◌<◌, ◌≤◌, ℕ, List, Option, [], length, take, vec_capacity, Ok, None, IfOk, IfErr, IfSome, OnOk, OnErr};
 ghost use Rattle.httparse.specs.Grammar.{RequestHead, ReadsRequest, HasNoRequest};
 ghost use Rattle.httparse.specs.Spans.{IsRequestOf, IsRequestWithin};
 ghost use Rattle.lf_io.specs.Bytes.{prepended, HasEnded};
@@ -108,7 +108,8 @@ fn parse_if_due(
 
 // What is answered where the input has ended.
 fn end_of_input(pending: &[u8], lines: &mut [HeaderSpan]) -> Result<Option<RequestSpans>, HeadErr>
-    requires { length lines.old ≡ 64 }
+    requires lines { length lines.old ≡ 64 }
+    requires short { length pending.now < 16384 }
     ensures room { length lines.new ≡ 64 }
     ensures whole { IfOk result (λ o. IfSome o (λ spans. IsRequestOf pending.now lines.new spans)) }
     ensures within { IfOk result (λ o. IfSome o (λ spans. IsRequestWithin pending.now lines.new spans)) }

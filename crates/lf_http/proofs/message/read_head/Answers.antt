@@ -7,7 +7,7 @@ use Rattle.lf_io.specs.Bytes.{prepended}
 use Rattle.lf_io.proofs.Told.{prepended_nothing}
 use Rattle.lf_http.specs.Judge.{judged, request_of}
 use Rattle.lf_http.specs.Reading.{IsRefused, as_read, name_of}
-use Rattle.lf_http.proofs.Found.{refused_is, head_is, rest_is, not_none, own_refusal, nothing_taken, found-none, large_is, many_lines, within_limits, not_beyond}
+use Rattle.lf_http.proofs.Found.{refused_is, head_is, rest_is, not_none, own_refusal, nothing_taken, found-none, large_is, many_lines, within_limits, not_beyond, cut_is, no_whole, none_told}
 use Rattle.lf_http.proofs.message.read_head.Goals as goal
 
 pub returns-in-Ok-None-clause-found : goal.returns-in-Ok-None-clause-found
@@ -231,3 +231,47 @@ returns-clause-limits g c =
       limits.0,
       limits.1,
     )
+
+pub returns-in-Ok-None-clause-cut : goal.returns-in-Ok-None-clause-cut
+returns-in-Ok-None-clause-cut g c =
+    let left = g.S.Source.left c.next_head.new.source in
+    let none = c.in-Ok-None.is ∙ ap Ok c.in-Ok-None.field-0-is in
+    rw (← c.buffers.view_is) (λ h told lacking tells some lacks reads short few read.
+    absurd (some (none_told (c.buffers.inside.pending.items ++ told) left
+    (ap (λ (o : Option (List ℕ)). prepended c.buffers.inside.pending.items o) (sym tells)
+    ∙ c.next_head.ensures.bytes
+    ∙ ap (λ (bytes : List ℕ). prepended bytes left) (c.next_head.ensures.none none)
+    ∙ prepended_nothing left)
+    (c.next_head.ensures.end none))))
+
+pub returns-in-Err-clause-cut : goal.returns-in-Err-clause-cut
+returns-in-Err-clause-cut g c =
+    let left = g.S.Source.left c.next_head.new.source in
+    let refused : IsRefused c.next_head.new.pending.items left c.in-Err.e =
+    inl (rw c.in-Err.e-is c.in-Err.ensures.refused) in
+    rw (← c.buffers.view_is) (λ h told lacking tells some lacks reads short few read.
+    ap Err (cut_is (c.buffers.inside.pending.items ++ told) lacking c.next_head.new.pending.items left h c.in-Err.e
+    (ap (λ (o : Option (List ℕ)). prepended c.buffers.inside.pending.items o) (sym tells) ∙ c.next_head.ensures.bytes)
+    reads lacks short few (λ e. read (ap Err e)) refused))
+
+pub returns-in-Err-judge-clause-cut : goal.returns-in-Err-judge-clause-cut
+returns-in-Err-judge-clause-cut g c =
+    let left = g.S.Source.left c.next_head.new.source in
+    let found : IsRequestOf c.next_head.new.pending.items c.next_head.new.lines c.in-Ok-Some.spans =
+    rw c.in-Ok-Some.field-0-is at c.in-Ok-Some.ensures.whole in
+    rw (← c.buffers.view_is) (λ h told lacking tells some lacks reads short few read.
+    absurd (no_whole (c.buffers.inside.pending.items ++ told) lacking (drop c.in-Ok-Some.spans.len c.next_head.new.pending.items) left h found.0
+    (ap (λ (o : Option (List ℕ)). prepended c.buffers.inside.pending.items o) (sym tells) ∙ c.next_head.ensures.bytes
+    ∙ ap (λ (bytes : List ℕ). prepended bytes left) found.1.reads.1)
+    found.1.reads.0 reads lacks))
+
+pub returns-clause-cut : goal.returns-clause-cut
+returns-clause-cut g c =
+    let left = g.S.Source.left c.next_head.new.source in
+    let found : IsRequestOf c.next_head.new.pending.items c.next_head.new.lines c.in-Ok-Some.spans =
+    rw c.in-Ok-Some.field-0-is at c.in-Ok-Some.ensures.whole in
+    rw (← c.buffers.view_is) (λ h told lacking tells some lacks reads short few read.
+    absurd (no_whole (c.buffers.inside.pending.items ++ told) lacking (drop c.in-Ok-Some.spans.len c.next_head.new.pending.items) left h found.0
+    (ap (λ (o : Option (List ℕ)). prepended c.buffers.inside.pending.items o) (sym tells) ∙ c.next_head.ensures.bytes
+    ∙ ap (λ (bytes : List ℕ). prepended bytes left) found.1.reads.1)
+    found.1.reads.0 reads lacks))

@@ -1,11 +1,14 @@
+ghost use Rattle.std.specs.Prelude.{◌≤◌, IfOk};
+
 use crate::{
     Calls, Failed, File, FileShelf, MemoryShelf, MemorySink, MemorySource, ReadSource, Shelf,
     ShelfErr, Sink, Source, WriteSink, read_all, write_all,
 };
 use lf_base::{ListOf, Text};
 use std::alloc::Global;
+use std::io::{ErrorKind, Read, Write};
 use std::test::Fail;
-use std::{env, fs};
+use std::{env, fs, io};
 
 fn no_calls(alloc: Global) -> Calls {
     Calls::new(Vec::new(alloc))
@@ -94,6 +97,62 @@ fn readers_and_writers_are_sources_and_sinks(rt: HostRuntime) -> Result<(), Fail
     let mut sink = WriteSink::new(&mut bytes);
     assert_eq!(rt; write_all(&mut sink, b"abc"), Ok(()));
     assert_eq!(rt; bytes.as_slice(), b"abc".as_slice());
+    Ok(())
+}
+
+// Takes and gives one byte a call. Its second call is interrupted, its fourth fails, and its sixth takes nothing.
+#[derive(Drop)]
+struct Shaky {
+    calls: u32,
+}
+
+impl Shaky {
+    fn next(&mut self) -> io::Result<usize>
+        ensures { IfOk result (λ n. n ≤ 1) }
+    {
+        self.calls = self.calls.saturating_add(1);
+        match self.calls {
+            2 => Err(ErrorKind::Interrupted.into()),
+            4 => Err(ErrorKind::Other.into()),
+            6 => Ok(0),
+            _ => Ok(1),
+        }
+    }
+}
+
+impl Read for Shaky {
+    fn read(&mut self, buf: &mut [u8]) -> io::Result<usize> {
+        let count = self.next()?;
+        Ok(count.min(buf.len()))
+    }
+}
+
+impl Write for Shaky {
+    fn write(&mut self, buf: &[u8]) -> io::Result<usize> {
+        let count = self.next()?;
+        Ok(count.min(buf.len()))
+    }
+
+    fn flush(&mut self) -> io::Result<()> {
+        Ok(())
+    }
+}
+
+#[test]
+fn an_interrupted_call_is_made_again_and_a_failed_one_is_told(rt: HostRuntime) -> Result<(), Fail> {
+    let mut source = ReadSource::new(Shaky { calls: 0 });
+    let mut sink = WriteSink::new(Shaky { calls: 0 });
+    let mut buf = [0u8; 2];
+    for (read, written) in [
+        (Ok(1), Ok(1)),
+        (Ok(1), Ok(1)),
+        (Err(Failed), Err(Failed)),
+        (Ok(1), Ok(1)),
+        (Ok(0), Err(Failed)),
+    ] {
+        assert_eq!(rt; source.read(&mut buf), read);
+        assert_eq!(rt; sink.write(b"ab"), written);
+    }
     Ok(())
 }
 

@@ -79,6 +79,199 @@ fn heads_and_bodies_come_in_any_pieces(rt: HostRuntime) -> Result<(), Fail> {
     Ok(())
 }
 
+// What a plain request for a frame says.
+const PLAIN: Head = Head {
+    method: Method::Get,
+    target: Target::FrameAt,
+    length: 0,
+    expects: false,
+    plain: true,
+    close: false,
+    seen: None,
+    bad_seen: false,
+    now: false,
+    bad_refresh: false,
+};
+
+// The answer for the head of these bytes in pieces of this length.
+fn head_of(alloc: Global, bytes: &[u8], piece: usize) -> Result<Result<Option<Head>, HeadErr>, Fail>
+    requires { 0 < piece }
+{
+    let mut source = source_of(alloc, bytes, piece)?;
+    match Buffers::new(alloc) {
+        Ok(mut buffers) => Ok(read_head(&mut source, &mut buffers)),
+        Err(Memory) => Ok(Ok(None)),
+    }
+}
+
+// Whether the bytes are this head in any pieces, and cut short wherever they are cut.
+fn is_head(alloc: Global, bytes: &[u8], head: Head) -> Result<bool, Fail> {
+    for piece in [1usize, 7, 4096] {
+        if head_of(alloc, bytes, piece)? != Ok(Some(head)) {
+            return Ok(false);
+        }
+    }
+    for cut in 0..bytes.len() {
+        let (front, _) = bytes.split_at(cut);
+        let wanted = if cut == 0 {
+            Ok(None)
+        } else {
+            Err(HeadErr::CutShort)
+        };
+        if head_of(alloc, front, 1)? != wanted || head_of(alloc, front, 7)? != wanted {
+            return Ok(false);
+        }
+    }
+    Ok(true)
+}
+
+#[test]
+fn methods_and_targets_are_read_as_they_are_sent(rt: HostRuntime) -> Result<(), Fail> {
+    let alloc = rt.alloc();
+    for (bytes, method, target) in [
+        (
+            b"GET /frames/ HTTP/1.1\r\nHost: a\r\n\r\n".as_slice(),
+            Method::Get,
+            Target::FrameAt,
+        ),
+        (
+            b"PUT /framesx HTTP/1.1\r\nhOsT:\r\nContent-length: 0\r\n\r\n".as_slice(),
+            Method::Put,
+            Target::NoTarget,
+        ),
+        (
+            b"\r\n\nDELETE /frames/a/b HTTP/1.1\nHost: a\n\n".as_slice(),
+            Method::Delete,
+            Target::FrameAt,
+        ),
+        (
+            b"POST /patch HTTP/1.1\r\nHost: a\r\nCONTENT-LENGTH: 0\r\n\r\n".as_slice(),
+            Method::Post,
+            Target::PatchAt,
+        ),
+        (
+            b"POST /turn HTTP/1.1\r\nHost: a\r\n\r\n".as_slice(),
+            Method::Post,
+            Target::NoTarget,
+        ),
+        (
+            b"HEAD /version HTTP/1.1\r\nHost: a\r\n\r\n".as_slice(),
+            Method::HeadOnly,
+            Target::VersionAt,
+        ),
+        (
+            b"get /version?x HTTP/1.1\r\nHost: a\r\n\r\n".as_slice(),
+            Method::OtherMethod,
+            Target::NoTarget,
+        ),
+    ] {
+        let head = Head {
+            method,
+            target,
+            ..PLAIN
+        };
+        assert!(rt; is_head(alloc, bytes, head)?);
+    }
+    Ok(())
+}
+
+// A request for a frame with these header lines.
+fn with_lines(alloc: Global, version: &[u8], lines: &[u8]) -> Result<Vec<u8>, Fail> {
+    let mut head = b"GET /frames/a HTTP/".as_slice().to_vec(alloc)?;
+    head.extend_from_slice(version)?;
+    head.extend_from_slice(b"\r\n".as_slice())?;
+    head.extend_from_slice(lines)?;
+    head.extend_from_slice(b"\r\n".as_slice())?;
+    Ok(head)
+}
+
+#[test]
+fn header_lines_say_what_a_request_asks(rt: HostRuntime) -> Result<(), Fail> {
+    let alloc = rt.alloc();
+    let closes = Head {
+        close: true,
+        ..PLAIN
+    };
+    let encoded = Head {
+        plain: false,
+        ..PLAIN
+    };
+    for (lines, head) in [
+        (b"Connection: keep-alive,\tCLOSE ,x\r\n".as_slice(), closes),
+        (b"Connection: x\r\nConnection: close\r\n".as_slice(), closes),
+        (b"Connection: closed, keep close\r\n".as_slice(), PLAIN),
+        (
+            b"Content-Encoding: \t identity \r\ncontent-encoding:identity\r\n".as_slice(),
+            PLAIN,
+        ),
+        (b"Content-Encoding: Identity\r\n".as_slice(), encoded),
+        (
+            b"Content-Encoding: identity\r\nContent-Encoding: gzip\r\n".as_slice(),
+            encoded,
+        ),
+        (
+            b"Content-Length: 000000000067108864\r\n".as_slice(),
+            Head {
+                length: 67_108_864,
+                ..PLAIN
+            },
+        ),
+        (
+            b"Ld-Seen: 7\r\nLD-SEEN: 999999999999999999\r\nLd-Seen: 8\r\n".as_slice(),
+            Head {
+                seen: Some(999_999_999_999_999_999),
+                ..PLAIN
+            },
+        ),
+        (
+            b"Ld-Seen: 1000000000000000000\r\nLd-Seen: 012\r\nLd-Seen:\r\n".as_slice(),
+            Head {
+                seen: Some(12),
+                bad_seen: true,
+                ..PLAIN
+            },
+        ),
+        (
+            b"Ld-Seen: -1\r\n".as_slice(),
+            Head {
+                bad_seen: true,
+                ..PLAIN
+            },
+        ),
+        (
+            b"Ld-Refresh: now\r\n".as_slice(),
+            Head { now: true, ..PLAIN },
+        ),
+        (
+            b"Ld-Refresh: Now\r\n".as_slice(),
+            Head {
+                bad_refresh: true,
+                ..PLAIN
+            },
+        ),
+        (
+            b"Ld-Refresh: later\r\nld-refresh: now\r\n".as_slice(),
+            Head {
+                now: true,
+                bad_refresh: true,
+                ..PLAIN
+            },
+        ),
+    ] {
+        let mut hosted = lines.to_vec(alloc)?;
+        hosted.extend_from_slice(b"Host: a\r\n".as_slice())?;
+        let newer = with_lines(alloc, b"1.1", &hosted)?;
+        assert!(rt; is_head(alloc, &newer, head)?);
+        let older = with_lines(alloc, b"1.0", lines)?;
+        let last = Head {
+            close: true,
+            ..head
+        };
+        assert!(rt; is_head(alloc, &older, last)?);
+    }
+    Ok(())
+}
+
 #[test]
 fn heads_are_refused_for_their_first_cause(rt: HostRuntime) -> Result<(), Fail> {
     let alloc = rt.alloc();
@@ -92,20 +285,41 @@ fn heads_are_refused_for_their_first_cause(rt: HostRuntime) -> Result<(), Fail> 
             HeadErr::BadHead,
         ),
         (
+            b"PUT / HTTP/1.0\r\nContent-Length: 1\r\nContent-Length: 1\r\n\r\n".as_slice(),
+            HeadErr::BadHead,
+        ),
+        (
             b"PUT /frames/a HTTP/1.0\r\nContent-Length: +1\r\n\r\n".as_slice(),
             HeadErr::BadHead,
         ),
+        (
+            b"PUT /frames/a HTTP/1.0\r\nContent-Length:\r\n\r\n".as_slice(),
+            HeadErr::BadHead,
+        ),
+        (
+            b"PUT / HTTP/1.0\r\nContent-Length: 0000000000000000001\r\n\r\n".as_slice(),
+            HeadErr::BadHead,
+        ),
+        (
+            b"GET / HTTP/1.1\r\nTransfer-Encoding: chunked\r\n\r\n".as_slice(),
+            HeadErr::BadHead,
+        ),
         (b"\0".as_slice(), HeadErr::BadHead),
+        (b"GET / HTTP/1.2\r\n\r\n".as_slice(), HeadErr::BadHead),
         (
             b"PUT /frames/a HTTP/1.0\r\n\r\n".as_slice(),
             HeadErr::LengthNeeded,
         ),
         (
-            b"GET / HTTP/1.0\r\nTransfer-Encoding: x\r\n\r\n".as_slice(),
+            b"POST /patch HTTP/1.0\r\n\r\n".as_slice(),
             HeadErr::LengthNeeded,
         ),
         (
-            b"GET / HTTP/1.0\r\nContent-Length: 67108865\r\n\r\n".as_slice(),
+            b"GET / HTTP/1.0\r\nTransfer-Encoding: x\r\nContent-Length: 67108865\r\n\r\n".as_slice(),
+            HeadErr::LengthNeeded,
+        ),
+        (
+            b"GET / HTTP/1.0\r\nContent-Length: 67108865\r\nExpect: x\r\n\r\n".as_slice(),
             HeadErr::BodyTooLong,
         ),
         (
@@ -114,12 +328,9 @@ fn heads_are_refused_for_their_first_cause(rt: HostRuntime) -> Result<(), Fail> 
         ),
         (b"GET / HTTP/1.0\r\n".as_slice(), HeadErr::CutShort),
     ] {
-        let mut source = source_of(alloc, bytes, 5)?;
-        let Ok(mut buffers) = Buffers::new(alloc) else {
-            assert!(rt; false);
-            return Ok(());
-        };
-        assert_eq!(rt; read_head(&mut source, &mut buffers), Err(cause));
+        for piece in [1usize, 7, 4096] {
+            assert_eq!(rt; head_of(alloc, bytes, piece)?, Err(cause));
+        }
     }
     Ok(())
 }
@@ -200,6 +411,13 @@ fn long_head(alloc: Global, more: usize) -> Result<Vec<u8>, Fail> {
     Ok(head)
 }
 
+// The first bytes of a head that has no end.
+fn open_head(alloc: Global, count: usize) -> Result<Vec<u8>, Fail> {
+    let mut head = long_head(alloc, count)?;
+    head.truncate(count);
+    Ok(head)
+}
+
 fn head_of_lines(alloc: Global, count: usize) -> Result<Vec<u8>, Fail> {
     let mut head = b"GET /version HTTP/1.0\r\n".as_slice().to_vec(alloc)?;
     for _ in 0..count {
@@ -217,6 +435,8 @@ fn heads_at_the_limits_are_read(rt: HostRuntime) -> Result<(), Fail> {
         (long_head(alloc, 16_355)?, Answer::Head(HeadErr::TooLarge)),
         (head_of_lines(alloc, 64)?, Answer::Whole),
         (head_of_lines(alloc, 65)?, Answer::Head(HeadErr::TooLarge)),
+        (open_head(alloc, 16_383)?, Answer::Head(HeadErr::CutShort)),
+        (open_head(alloc, 16_384)?, Answer::Head(HeadErr::TooLarge)),
     ] {
         assert_eq!(rt; message_of(alloc, &head, 1, NO_CALL)?, wanted);
         assert_eq!(rt; message_of(alloc, &head, 7, NO_CALL)?, wanted);

@@ -40,6 +40,7 @@ fn fill<S: Source>(source: &mut S, body: &mut Vec<u8>, count: usize) -> Result<(
     ensures whole { OnOk result (length body.new.items ≡ count) }
     ensures bytes { prepended body.old.items (S.left source.old) ≡ prepended body.new.items (S.left source.new) }
     ensures cut { IsErrOf result BodyErr.CutShort → length body.new.items < count }
+    ensures faulted { IsErrOf result BodyErr.ReadFault → length body.new.items < count }
     ensures end { IsErrOf result BodyErr.CutShort → HasEnded (S.left source.new) }
     ensures some { IsErrOf result BodyErr.Memory → 0 < count }
     ensures fewer { (2 ^ 63) - S.taken source.new ≤ (2 ^ 63) - S.taken source.old }
@@ -106,6 +107,11 @@ pub fn read_body<S: Source>(
     ensures cut { IsErrOf result BodyErr.CutShort → length buffers.new.body < count }
     ensures end { IsErrOf result BodyErr.CutShort → HasEnded (S.left source.new) }
     ensures all { IsErrOf result BodyErr.CutShort
+        → prepended buffers.old.pending (S.left source.old) ≡ prepended buffers.new.body (S.left source.new) }
+
+    // Where a read failed, the body isn't whole, and all bytes that were taken stand in it.
+    ensures faulted { IsErrOf result BodyErr.ReadFault → length buffers.new.body < count }
+    ensures faulted_all { IsErrOf result BodyErr.ReadFault
         → prepended buffers.old.pending (S.left source.old) ≡ prepended buffers.new.body (S.left source.new) }
 
     // Where the source tells what is left, the answer follows from it, unless a read failed or memory was missing.

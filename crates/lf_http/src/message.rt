@@ -43,10 +43,8 @@ pub fn read_head<S: Source>(source: &mut S, buffers: &mut Buffers) -> Result<Opt
     // An accepted head, with the empty lines before it, stood first in the stream, and is gone from it.
     ensures head { IfOk result (λ o. IfSome o (λ head. (h : RequestHead) × IsRequestHead h
         × (prepended buffers.old.pending (S.left source.old) ≡ prepended (print_request h ++ buffers.new.pending) (S.left source.new))
-        × (judged (request_of h) ≡ Ok head) × (buffers.new.name ≡ name_of h.target))) }
-    ensures limits { IfOk result (λ o. IfSome o (λ head. (h : RequestHead) × IsRequestHead h
-        × (prepended buffers.old.pending (S.left source.old) ≡ prepended (print_request h ++ buffers.new.pending) (S.left source.new))
-        × (judged (request_of h) ≡ Ok head) × (length (print_request h) ≤ 16384) × (length h.fields ≤ 64))) }
+        × (judged (request_of h) ≡ Ok head) × (buffers.new.name ≡ name_of h.target)
+        × (length (print_request h) ≤ 16384) × (length h.fields ≤ 64))) }
 
     // `None` comes where the input ended before the first byte of a message.
     ensures none { result ≡ Ok None → buffers.new.pending ≡ [] }

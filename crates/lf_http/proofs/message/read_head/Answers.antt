@@ -60,6 +60,10 @@ pub returns-clause-head : goal.returns-clause-head
 returns-clause-head g c =
     let found : IsRequestOf c.next_head.new.pending.items c.next_head.new.lines c.in-Ok-Some.spans =
     rw c.in-Ok-Some.field-0-is at c.in-Ok-Some.ensures.whole in
+    let inside : IsRequestWithin c.next_head.new.pending.items c.next_head.new.lines c.in-Ok-Some.spans =
+    rw c.in-Ok-Some.field-0-is at c.in-Ok-Some.ensures.spans in
+    let limits = within_limits c.next_head.new.pending.items c.next_head.new.lines c.in-Ok-Some.spans found.0 found.1 inside
+    c.next_head.ensures.room c.next_head.ensures.within in
     let lines : take c.buffers.inside.lines.len (c.next_head.new.lines ++ drop (length c.next_head.new.lines) c.buffers.inside.lines.items)
     ≡ c.next_head.new.lines = grind (arith, common_steps) in
     let judged_is = rw (c.deref.ensures.value, c.deref-2.ensures.value, lines) at c.judge.ensures.value in (
@@ -69,6 +73,8 @@ returns-clause-head g c =
           (c.in-Ok-Some.ensures.bytes ∙ ap (λ (bytes : List ℕ). prepended bytes (g.S.Source.left c.next_head.new.source)) found.1.reads.1)),
       sym (judged_is found.0 found.1) ∙ c.in-Ok.is,
       c.keep_name.ensures.name ∙ ap name_of ((rw c.deref-3.ensures.value at c.bytes_of.ensures) ∙ found.1.path),
+      limits.0,
+      limits.1,
     )
 
 pub returns-clause-found : goal.returns-clause-found
@@ -211,26 +217,6 @@ returns-in-Err-judge-clause-many g c =
     (request_unique c.next_head.new.pending.items h found.0 rest (drop c.in-Ok-Some.spans.len c.next_head.new.pending.items)
     reads found.1.reads).0
     limits (inr many))
-
-pub returns-clause-limits : goal.returns-clause-limits
-returns-clause-limits g c =
-    let found : IsRequestOf c.next_head.new.pending.items c.next_head.new.lines c.in-Ok-Some.spans =
-    rw c.in-Ok-Some.field-0-is at c.in-Ok-Some.ensures.whole in
-    let inside : IsRequestWithin c.next_head.new.pending.items c.next_head.new.lines c.in-Ok-Some.spans =
-    rw c.in-Ok-Some.field-0-is at c.in-Ok-Some.ensures.spans in
-    let limits = within_limits c.next_head.new.pending.items c.next_head.new.lines c.in-Ok-Some.spans found.0 found.1 inside
-    c.next_head.ensures.room c.next_head.ensures.within in
-    let lines : take c.buffers.inside.lines.len (c.next_head.new.lines ++ drop (length c.next_head.new.lines) c.buffers.inside.lines.items)
-    ≡ c.next_head.new.lines = grind (arith, common_steps) in
-    let judged_is = rw (c.deref.ensures.value, c.deref-2.ensures.value, lines) at c.judge.ensures.value in (
-      found.0,
-      found.1.reads.0,
-      (rw (← c.buffers.view_is, c.drop_front.ensures.items)
-          (c.in-Ok-Some.ensures.bytes ∙ ap (λ (bytes : List ℕ). prepended bytes (g.S.Source.left c.next_head.new.source)) found.1.reads.1)),
-      sym (judged_is found.0 found.1) ∙ c.in-Ok.is,
-      limits.0,
-      limits.1,
-    )
 
 pub returns-in-Ok-None-clause-cut : goal.returns-in-Ok-None-clause-cut
 returns-in-Ok-None-clause-cut g c =

@@ -130,9 +130,11 @@ stated = (
 )
 
 commit-is : IsExchange true 1 0 [] commit_exchange
-unfolding method_of target_of trim_ows most_commits most_quads most_text_bytes most_first_bytes xsd_string rdf_type
+unfolding print_request method_of target_of trim_ows most_commits most_quads most_text_bytes most_first_bytes xsd_string rdf_type
 commit-is = record {
   is_head = commit-head;
+  short = omega arith;
+  few = omega arith;
   accepted = refl;
   whole = refl;
   came = as_it_was [];
@@ -152,9 +154,11 @@ commit-is = record {
 }
 
 register-is : IsExchange true 1 1 one_commit register_exchange
-unfolding method_of target_of trim_ows most_frame_bytes most_frames most_registrations most_text_bytes most_name most_first_bytes is_first_frame frame_at body_at after_byte encode_utf8
+unfolding print_request method_of target_of trim_ows most_frame_bytes most_frames most_registrations most_text_bytes most_name most_first_bytes is_first_frame frame_at body_at after_byte encode_utf8
 register-is = record {
   is_head = register-head;
+  short = omega arith;
+  few = omega arith;
   accepted = refl;
   whole = refl;
   came = as_it_was one_commit;
@@ -164,9 +168,11 @@ register-is = record {
 }
 
 look-is : IsExchange true 1 1 first_history look_exchange
-unfolding method_of target_of trim_ows
+unfolding print_request method_of target_of trim_ows
 look-is = record {
   is_head = look-head;
+  short = omega arith;
+  few = omega arith;
   accepted = refl;
   whole = refl;
   came = as_it_was first_history;
@@ -176,9 +182,11 @@ look-is = record {
 }
 
 refresh-is : IsExchange true 1 1 first_history refresh_exchange
-unfolding method_of target_of trim_ows
+unfolding print_request method_of target_of trim_ows
 refresh-is = record {
   is_head = refresh-head;
+  short = omega arith;
+  few = omega arith;
   accepted = refl;
   whole = refl;
   came = as_it_was first_history;

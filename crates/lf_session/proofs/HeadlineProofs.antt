@@ -25,7 +25,7 @@ exchange-holds alone seat need before x start is =
     let trust = answered-trust seat (name_of x.sent.target) x.body (needed need x.head) (asked_by x.head) x.seen x.later x.made x.reply
     (prefix_is_legal is_first_frame x.later x.made legal) is.answered in
     record {
-      trusted = record { document = trust.document; versioned = trust.versioned; pending = trust.pending };
+      trusted = record { document = trust.document; framed = trust.framed; versioned = trust.versioned; pending = trust.pending };
       legal = legal;
     }
 
@@ -63,9 +63,9 @@ last-holds alone seat before after xs rest left (session.request x) hold stands 
       trusted = trusted-more 0 xs x hold.trusted one.trusted;
       legal = subst (IsLegal is_first_frame) (sym stands.2) one.legal;
     }
-last-holds alone seat before after xs rest left (session.refused e reply) hold stands = same-history _ after xs hold stands.2
+last-holds alone seat before after xs rest left (session.refused e reply) hold stands = same-history _ after xs hold stands.3
 last-holds alone seat before after xs rest left session.cut hold stands = same-history _ after xs hold stands.1
-last-holds alone seat before after xs rest left session.faulted hold stands = same-history _ after xs hold stands
+last-holds alone seat before after xs rest left session.faulted hold stands = same-history _ after xs hold stands.1
 last-holds alone seat before after xs rest left (session.no_room head) hold stands = same-history _ after xs hold stands.1
 last-holds alone seat before after xs rest left session.no_buffers hold stands = same-history _ after xs hold stands.1
 

@@ -18,6 +18,9 @@ pub record IsOther (reply : Reply) : Type 0 where
   pub unread : reply.ld_json ≡ false
   pub settled : nat_eq reply.status 202 ≡ false
 
+pub not_200 : (status : ℕ) → nat_eq status 200 ≡ false → status ≡ 200 → ⊥
+not_200 status other is = false≢true (sym other ∙ ap (λ (n : ℕ). nat_eq n 200) is)
+
 pub not_202 : (status : ℕ) → nat_eq status 202 ≡ false → status ≡ 202 → ⊥
 not_202 status other is = false≢true (sym other ∙ ap (λ (n : ℕ). nat_eq n 202) is)
 

@@ -21,11 +21,12 @@ use Rattle.lf_session.specs.Bodies.{pending_body}
 use Rattle.lf_session.specs.Replies.{Reply, plain, document_reply, look_reply, framed_reply, unknown_frame, out_of_memory, not_built, version_reply}
 use Rattle.lf_session.specs.Answers.{IsAnswered, Commits, Refreshes}
 use Rattle.lf_session.specs.Headline.{IsOfOneVersion, IsStillPending, asks_for_document}
-use Rattle.lf_session.proofs.HeadlineReplies.{IsOther, not_202, refused-other, registered-other, retired-other, committed-other, document-settled}
+use Rattle.lf_session.proofs.HeadlineReplies.{IsOther, not_200, not_202, refused-other, registered-other, retired-other, committed-other, document-settled}
 
 -- what can be trusted of a reply over these histories
 pub record Trust (asks : Bool) (seen later : List Operation) (name : List ℕ) (need : ℕ) (reply : Reply) : Type 0 where
   pub document : reply.ld_json ≡ true → IsOfOneVersion later name need reply
+  pub framed : asks ≡ true → reply.status ≡ 200 → IsOfOneVersion later name need reply
   pub versioned : asks ≡ true → is_some reply.version ≡ true → IsOfOneVersion later name need reply
   pub pending : reply.status ≡ 202 → IsStillPending seen name need reply
 
@@ -34,15 +35,17 @@ other-trust : (seen later : List Operation) (name : List ℕ) (need : ℕ) (repl
     → Trust false seen later name need reply
 other-trust seen later name need reply other = record {
   document = λ is. absurd (false≢true (sym other.unread ∙ is));
+  framed = λ is done. absurd (false≢true is);
   versioned = λ is some. absurd (false≢true is);
   pending = λ is. absurd (not_202 reply.status other.settled is);
 }
 
 -- where a document is asked for, and nothing is said of a version
 bare-trust : (seen later : List Operation) (name : List ℕ) (need : ℕ) (reply : Reply) → IsOther reply → is_some reply.version ≡ false
-    → Trust true seen later name need reply
-bare-trust seen later name need reply other none = record {
+    → nat_eq reply.status 200 ≡ false → Trust true seen later name need reply
+bare-trust seen later name need reply other none failed = record {
   document = λ is. absurd (false≢true (sym other.unread ∙ is));
+  framed = λ is done. absurd (not_200 reply.status failed done);
   versioned = λ is some. absurd (false≢true (sym none ∙ some));
   pending = λ is. absurd (not_202 reply.status other.settled is);
 }
@@ -51,6 +54,7 @@ document-trust : (seen later : List Operation) (name : List ℕ) (need : ℕ) (r
     → IsOfOneVersion later name need reply → Trust true seen later name need reply
 document-trust seen later name need reply settled one = record {
   document = λ is. one;
+  framed = λ is done. one;
   versioned = λ is some. one;
   pending = λ is. absurd (not_202 reply.status settled is);
 }
@@ -59,6 +63,7 @@ pending-trust : (seen later : List Operation) (name : List ℕ) (need : ℕ) (bo
     → IsStillPending seen name need (plain 202 body) → Trust true seen later name need (plain 202 body)
 pending-trust seen later name need body still = record {
   document = λ is. absurd (false≢true is);
+  framed = λ is done. absurd (not_200 202 refl done);
   versioned = λ is some. absurd (false≢true some);
   pending = λ is. still;
 }
@@ -88,9 +93,9 @@ look-trust later name need (Ok (looked.Document doc version)) legal looks =
 look-trust later name need (Ok (looked.Pending have needed)) legal looks =
     pending-trust later later name need (pending_body have needed) (still_pending later name need have needed looks)
 look-trust later name need (Ok looked.Unknown) legal looks =
-    bare-trust later later name need unknown_frame (record { unread = refl; settled = refl }) refl
+    bare-trust later later name need unknown_frame (record { unread = refl; settled = refl }) refl refl
 look-trust later name need (Err refused) legal looks =
-    bare-trust later later name need out_of_memory (record { unread = refl; settled = refl }) refl
+    bare-trust later later name need out_of_memory (record { unread = refl; settled = refl }) refl refl
 
 -- what stands at the name in the history seen, where the later one is the same
 seen-trust : (seen later : List Operation) (name : List ℕ) (need : ℕ) (result : Result Look Memory) (reply : Reply)
@@ -123,9 +128,9 @@ framed-trust seen later name need (Ok (Some now)) low frames =
     of_version : now.doc ≡ document frames.0.text (dataset_at later now.version)
     of_version = frames.3 ∙ ap (λ (n : ℕ). document frames.0.text (dataset_at later n)) (sym frames.2)
 framed-trust seen later name need (Ok None) low frames =
-    bare-trust seen later name need unknown_frame (record { unread = refl; settled = refl }) refl
+    bare-trust seen later name need unknown_frame (record { unread = refl; settled = refl }) refl refl
 framed-trust seen later name need (Err refused) low frames =
-    bare-trust seen later name need out_of_memory (record { unread = refl; settled = refl }) refl
+    bare-trust seen later name need out_of_memory (record { unread = refl; settled = refl }) refl refl
 
 refreshed-trust : (seen later : List Operation) (name : List ℕ) (need : ℕ) (result : Result Look Memory) (reply : Reply)
     → IsLegal is_first_frame later → Looks seen name need result → Refreshes name need seen later result reply

@@ -9,6 +9,7 @@ pub mod Streams
 pub mod HeadlineReplies
 pub mod HeadlineTrust
 pub mod HeadlineOwn
+pub mod RefreshingProofs
 pub mod OwnProofs
 pub mod HeadlineProofs
 pub mod ToldParts

@@ -43,9 +43,9 @@ own-last alone seat before after xs rest left (session.request x) so stands =
     ∙ (ap (λ (w : List Operation). w ++ x.made) so
     ∙ (append_assoc (own seat before) (all_made xs) x.made
     ∙ ap (λ (w : List Operation). own seat before ++ w) (sym (made-more xs x)))))
-own-last alone seat before after xs rest left (session.refused e reply) so stands = ap (own seat) stands.2 ∙ so
+own-last alone seat before after xs rest left (session.refused e reply) so stands = ap (own seat) stands.3 ∙ so
 own-last alone seat before after xs rest left session.cut so stands = ap (own seat) stands.1 ∙ so
-own-last alone seat before after xs rest left session.faulted so stands = ap (own seat) stands ∙ so
+own-last alone seat before after xs rest left session.faulted so stands = ap (own seat) stands.1 ∙ so
 own-last alone seat before after xs rest left (session.no_room head) so stands = ap (own seat) stands.1 ∙ so
 own-last alone seat before after xs rest left session.no_buffers so stands = ap (own seat) stands.1 ∙ so
 

@@ -1,5 +1,5 @@
 -- A stream is served request by request.
-use Rattle.std.proofs.Common.{◌≡◌, ◌<◌, ◌∙◌, refl, sym, ap, subst, inl, inr, List, [], ◌++◌, ℕ, Bool, true, false, cond, length, take, Option, Some, None, Result, Ok, Err, append_assoc}
+use Rattle.std.proofs.Common.{◌≡◌, ◌<◌, ◌≤◌, ◌∙◌, refl, sym, ap, subst, inl, inr, List, [], ◌++◌, ℕ, Bool, true, false, cond, length, take, Option, Some, None, Result, Ok, Err, append_assoc}
 use Rattle.std.proofs.lemmas.Bool.{false≢true}
 use Rattle.httparse.specs.Grammar.{RequestHead, IsRequestHead, print_request}
 use Rattle.lf_io.specs.Bytes.{prepended, appended, AddsPart, HasEnded}
@@ -8,7 +8,7 @@ use Rattle.lf_http.specs.declared.head.Head.{Head}
 use Rattle.lf_http.specs.declared.head.HeadErr.{HeadErr}
 use Rattle.lf_http.specs.declared.head.HeadErr.TheVariants as h
 use Rattle.lf_http.specs.Judge.{request_of, judged, is_bad, needs_length, head_of}
-use Rattle.lf_http.specs.Reading.{IsRefused, name_of}
+use Rattle.lf_http.specs.Reading.{LacksHead, IsRefused, longest_head, most_lines, name_of}
 use Rattle.lf_histories.specs.declared.operation.Operation.{Operation}
 use Rattle.lf_session.specs.declared.ended.Ended.{Ended}
 use Rattle.lf_session.specs.declared.ended.Ended.TheVariants as ended
@@ -19,7 +19,7 @@ use Rattle.lf_session.specs.Answers.{IsAnswered}
 use Rattle.lf_session.specs.Steps.{IsStep}
 use Rattle.lf_session.specs.Requests.{asked_by}
 use Rattle.lf_session.specs.Exchanges.{Exchange, IsExchange, needed}
-use Rattle.lf_session.specs.Session.{Last, nothing, request, refused, cut, faulted, no_room, no_buffers, due, IsLast, EndsBy}
+use Rattle.lf_session.specs.Session.{Last, nothing, request, refused, cut, faulted, no_room, no_buffers, due, IsBodyCut, IsFirstRefusal, IsLast, EndsBy}
 use Rattle.lf_session.specs.Served.{Ends, Serves, last_of, SendsLast, SendsReply, Replies}
 
 -- the whole of what is due was sent, or a part
@@ -66,41 +66,42 @@ ends_clean alone seat need history left0 left1 held pending e end =
       read_some = other nothing refl;
     }
 
--- a judged head is never cut
-is_cut : Result Head HeadErr → Bool
-is_cut (Ok head) = false
-is_cut (Err h.CutShort) = true
-is_cut (Err h.ReadFault) = false
-is_cut (Err h.TooLarge) = false
-is_cut (Err h.BadHead) = false
-is_cut (Err h.LengthNeeded) = false
-is_cut (Err h.BodyTooLong) = false
-is_cut (Err h.Expectation) = false
+-- a judged head is never cut, and no read failed in it
+is_open : Result Head HeadErr → Bool
+is_open (Ok head) = false
+is_open (Err h.CutShort) = true
+is_open (Err h.ReadFault) = true
+is_open (Err h.TooLarge) = false
+is_open (Err h.BadHead) = false
+is_open (Err h.LengthNeeded) = false
+is_open (Err h.BodyTooLong) = false
+is_open (Err h.Expectation) = false
 
-no_cut : (a b c d : Bool) (head : Head)
-    → cond a (Err h.BadHead) (cond b (Err h.LengthNeeded) (cond c (Err h.BodyTooLong) (cond d (Err h.Expectation) (Ok head)))) ≡ Err h.CutShort → ⊥
-unfolding is_cut
-no_cut true b c d head e = false≢true (ap is_cut e)
-no_cut false true c d head e = false≢true (ap is_cut e)
-no_cut false false true d head e = false≢true (ap is_cut e)
-no_cut false false false true head e = false≢true (ap is_cut e)
-no_cut false false false false head e = false≢true (ap is_cut e)
+not_open : (a b c d : Bool) (head : Head) (e : HeadErr) → is_open (Err e) ≡ true
+    → cond a (Err h.BadHead) (cond b (Err h.LengthNeeded) (cond c (Err h.BodyTooLong) (cond d (Err h.Expectation) (Ok head)))) ≡ Err e → ⊥
+unfolding is_open
+not_open true b c d head e open_too is = false≢true (ap is_open is ∙ open_too)
+not_open false true c d head e open_too is = false≢true (ap is_open is ∙ open_too)
+not_open false false true d head e open_too is = false≢true (ap is_open is ∙ open_too)
+not_open false false false true head e open_too is = false≢true (ap is_open is ∙ open_too)
+not_open false false false false head e open_too is = false≢true (ap is_open is ∙ open_too)
 
-stands_cut : (alone : Bool) (seat need : ℕ) (history : List Operation) (rest : List ℕ) (left : Option (List ℕ))
-    → IsRefused rest left h.CutShort → IsLast alone seat need history rest left cut history
-stands_cut alone seat need history rest left (inl lacks) = (inl lacks, refl)
-stands_cut alone seat need history rest left (inr (k, more, reads, why)) =
-    absurd (no_cut (is_bad (request_of k)) (needs_length (request_of k)) _ _ (head_of (request_of k)) why)
+-- such a refusal is one of bytes without a whole head
+lacks_only : (rest : List ℕ) (left : Option (List ℕ)) (e : HeadErr) → is_open (Err e) ≡ true → IsRefused rest left e → LacksHead rest left e
+lacks_only rest left e open_too (inl lacks) = lacks
+lacks_only rest left e open_too (inr (k, more, reads, why)) =
+    absurd (not_open (is_bad (request_of k)) (needs_length (request_of k)) _ _ (head_of (request_of k)) e open_too why)
 
 stands : (alone : Bool) (seat need : ℕ) (history : List Operation) (rest : List ℕ) (left : Option (List ℕ)) (e : HeadErr)
-    → IsRefused rest left e → IsLast alone seat need history rest left (last_of e) history
-stands alone seat need history rest left h.ReadFault is = refl
-stands alone seat need history rest left h.CutShort is = stands_cut alone seat need history rest left is
-stands alone seat need history rest left h.TooLarge is = (refl, is, refl)
-stands alone seat need history rest left h.BadHead is = (refl, is, refl)
-stands alone seat need history rest left h.LengthNeeded is = (refl, is, refl)
-stands alone seat need history rest left h.BodyTooLong is = (refl, is, refl)
-stands alone seat need history rest left h.Expectation is = (refl, is, refl)
+    → IsRefused rest left e → IsFirstRefusal rest e → IsLast alone seat need history rest left (last_of e) history
+unfolding is_open
+stands alone seat need history rest left h.ReadFault is first = (inl (lacks_only rest left h.ReadFault refl is), refl)
+stands alone seat need history rest left h.CutShort is first = (inl (lacks_only rest left h.CutShort refl is), refl)
+stands alone seat need history rest left h.TooLarge is first = (refl, is, first, refl)
+stands alone seat need history rest left h.BadHead is first = (refl, is, first, refl)
+stands alone seat need history rest left h.LengthNeeded is first = (refl, is, first, refl)
+stands alone seat need history rest left h.BodyTooLong is first = (refl, is, first, refl)
+stands alone seat need history rest left h.Expectation is first = (refl, is, first, refl)
 
 last_is_other : (e : HeadErr) → is_no_buffers (last_of e) ≡ false
 unfolding is_no_buffers
@@ -115,16 +116,17 @@ last_is_other h.Expectation = refl
 -- a head was refused
 pub ends_refused : (alone : Bool) (seat need : ℕ) (history : List Operation) (left0 left1 held0 held1 : Option (List ℕ)) (pending rest : List ℕ)
     (e : HeadErr) (end : Ended)
-    → prepended pending left0 ≡ prepended rest left1 → IsRefused rest left1 e → SendsLast (last_of e) held0 held1 end
+    → prepended pending left0 ≡ prepended rest left1 → IsRefused rest left1 e → IsFirstRefusal rest e
+    → SendsLast (last_of e) held0 held1 end
     → Ends alone seat need history history record { left_before = left0; left_after = left1; held_before = held0; held_after = held1 } pending end
-ends_refused alone seat need history left0 left1 held0 held1 pending rest e end same is sends =
+ends_refused alone seat need history left0 left1 held0 held1 pending rest e end same is first sends =
     record {
       last = last_of e;
       rest = rest;
       sent = sends.sent;
       reads = same;
       writes = sends.writes;
-      stands = stands alone seat need history rest left1 e is;
+      stands = stands alone seat need history rest left1 e is first;
       ends = sends.ends;
       read_some = other (last_of e) (last_is_other e);
     }
@@ -136,59 +138,83 @@ pub read_behind : (left0 left1 left2 : Option (List ℕ)) (pending front mid mor
 read_behind left0 left1 left2 pending front mid more first second =
     first ∙ sym (prepended_twice front mid left1) ∙ ap (λ (o : Option (List ℕ)). prepended front o) second ∙ prepended_twice front more left2
 
+-- an accepted head within the limits
+pub record IsAccepted (sent : RequestHead) (head : Head) : Type 0 where
+  pub is_head : IsRequestHead sent
+  pub short : length (print_request sent) ≤ longest_head
+  pub few : length sent.fields ≤ most_lines
+  pub accepted : judged (request_of sent) ≡ Ok head
+
+body_cut : (sent : RequestHead) (head : Head) (body : List ℕ) → IsAccepted sent head → length body < head.length
+    → IsBodyCut (print_request sent ++ body)
+body_cut sent head body is lacking = record {
+  sent = sent;
+  head = head;
+  body = body;
+  is_head = is.is_head;
+  short = is.short;
+  few = is.few;
+  accepted = is.accepted;
+  spelled = refl;
+  lacking = lacking;
+}
+
 -- the input ended inside a body
 pub ends_cut : (alone : Bool) (seat need : ℕ) (history : List Operation) (left0 left1 left2 held : Option (List ℕ)) (pending mid body : List ℕ)
-    (sent : RequestHead) (head : Head)
-    → IsRequestHead sent → judged (request_of sent) ≡ Ok head
+    (sent : RequestHead) (head : Head) → IsAccepted sent head
     → prepended pending left0 ≡ prepended (print_request sent ++ mid) left1 → prepended mid left1 ≡ prepended body left2
     → length body < head.length → HasEnded left2
     → Ends alone seat need history history record { left_before = left0; left_after = left2; held_before = held; held_after = held } pending ended.CutShort
 unfolding is_no_buffers
-ends_cut alone seat need history left0 left1 left2 held pending mid body sent head is accepted first second short end =
+ends_cut alone seat need history left0 left1 left2 held pending mid body sent head is first second lacking end =
     record {
       last = cut;
       rest = print_request sent ++ body;
       sent = [];
       reads = read_behind left0 left1 left2 pending (print_request sent) mid body first second;
       writes = sym (appended_nothing held);
-      stands = (inr record { sent = sent; head = head; body = body; is_head = is; accepted = accepted; spelled = refl; short = short; ended = end }, refl);
+      stands = (inr (body_cut sent head body is lacking, end), refl);
       ends = (refl, refl);
       read_some = other cut refl;
     }
 
 -- a read failed inside a body
-pub ends_faulted : (alone : Bool) (seat need : ℕ) (history : List Operation) (left0 left1 left2 held : Option (List ℕ)) (pending front mid more : List ℕ)
-    → prepended pending left0 ≡ prepended (front ++ mid) left1 → prepended mid left1 ≡ prepended more left2
+pub ends_faulted : (alone : Bool) (seat need : ℕ) (history : List Operation) (left0 left1 left2 held : Option (List ℕ)) (pending mid body : List ℕ)
+    (sent : RequestHead) (head : Head) → IsAccepted sent head
+    → prepended pending left0 ≡ prepended (print_request sent ++ mid) left1 → prepended mid left1 ≡ prepended body left2
+    → length body < head.length
     → Ends alone seat need history history record { left_before = left0; left_after = left2; held_before = held; held_after = held } pending ended.ReadFault
 unfolding is_no_buffers
-ends_faulted alone seat need history left0 left1 left2 held pending front mid more first second =
+ends_faulted alone seat need history left0 left1 left2 held pending mid body sent head is first second lacking =
     record {
       last = faulted;
-      rest = front ++ more;
+      rest = print_request sent ++ body;
       sent = [];
-      reads = read_behind left0 left1 left2 pending front mid more first second;
+      reads = read_behind left0 left1 left2 pending (print_request sent) mid body first second;
       writes = sym (appended_nothing held);
-      stands = refl;
+      stands = (inr (body_cut sent head body is lacking), refl);
       ends = (refl, refl);
       read_some = other faulted refl;
     }
 
 -- no memory was found for a body
 pub ends_starved : (alone : Bool) (seat need : ℕ) (history : List Operation) (left0 left1 left2 held0 held1 : Option (List ℕ)) (pending mid more : List ℕ)
-    (sent : RequestHead) (head : Head) (end : Ended)
-    → IsRequestHead sent → judged (request_of sent) ≡ Ok head
+    (sent : RequestHead) (head : Head) (end : Ended) → IsAccepted sent head
     → prepended pending left0 ≡ prepended (print_request sent ++ mid) left1 → prepended mid left1 ≡ prepended more left2
     → 0 < head.length → SendsLast (no_room head) held0 held1 end
     → Ends alone seat need history history record { left_before = left0; left_after = left2; held_before = held0; held_after = held1 } pending end
 unfolding is_no_buffers
-ends_starved alone seat need history left0 left1 left2 held0 held1 pending mid more sent head end is accepted first second some sends =
+ends_starved alone seat need history left0 left1 left2 held0 held1 pending mid more sent head end is first second some sends =
     record {
       last = no_room head;
       rest = print_request sent ++ more;
       sent = sends.sent;
       reads = read_behind left0 left1 left2 pending (print_request sent) mid more first second;
       writes = sends.writes;
-      stands = (record { sent = sent; more = more; is_head = is; accepted = accepted; spelled = refl; some = some }, refl);
+      stands = (
+        record { sent = sent; more = more; is_head = is.is_head; short = is.short; few = is.few; accepted = is.accepted; spelled = refl; some = some },
+        refl,
+      );
       ends = sends.ends;
       read_some = other (no_room head) refl;
     }
@@ -199,13 +225,15 @@ exchange sent head body seen later made reply =
     record { sent = sent; head = head; body = body; seen = seen; later = later; made = made; reply = reply }
 
 is_exchange : (alone : Bool) (seat need : ℕ) (before after : List Operation) (sent : RequestHead) (head : Head) (name body : List ℕ) (reply : Reply)
-    → IsRequestHead sent → judged (request_of sent) ≡ Ok head → length body ≡ head.length → name ≡ name_of sent.target
+    → IsAccepted sent head → length body ≡ head.length → name ≡ name_of sent.target
     → (step : IsStep alone seat (needed need head) name body (asked_by head) before after reply)
     → IsExchange alone seat need before (exchange sent head body step.seen step.later step.made reply)
-is_exchange alone seat need before after sent head name body reply is accepted whole named step =
+is_exchange alone seat need before after sent head name body reply is whole named step =
     record {
-      is_head = is;
-      accepted = accepted;
+      is_head = is.is_head;
+      short = is.short;
+      few = is.few;
+      accepted = is.accepted;
       whole = whole;
       came = step.came;
       went = step.went;
@@ -217,15 +245,15 @@ is_exchange alone seat need before after sent head name body reply is accepted w
 pub serves_request : (alone : Bool) (seat need need_after : ℕ) (before after : List Operation)
     (left0 left1 left2 held0 held1 : Option (List ℕ)) (pending mid behind : List ℕ)
     (sent : RequestHead) (head : Head) (name body : List ℕ) (result : Option Ended)
-    → IsRequestHead sent → judged (request_of sent) ≡ Ok head → length body ≡ head.length → name ≡ name_of sent.target
+    → IsAccepted sent head → length body ≡ head.length → name ≡ name_of sent.target
     → prepended pending left0 ≡ prepended (print_request sent ++ mid) left1 → prepended mid left1 ≡ prepended (body ++ behind) left2
     → Replies alone seat need need_after head name body before after held0 held1 result
     → Serves alone seat need need_after before after record { left_before = left0; left_after = left2; held_before = held0; held_after = held1 } pending behind result
-serves_request alone seat need need_after before after left0 left1 left2 held0 held1 pending mid behind sent head name body result is accepted whole named first second r =
+serves_request alone seat need need_after before after left0 left1 left2 held0 held1 pending mid behind sent head name body result is whole named first second r =
     go result r.sends
   where
     is_x : IsExchange alone seat need before (exchange sent head body r.step.seen r.step.later r.step.made r.reply)
-    is_x = is_exchange alone seat need before after sent head name body r.reply is accepted whole named r.step
+    is_x = is_exchange alone seat need before after sent head name body r.reply is whole named r.step
 
     reads : prepended pending left0 ≡ prepended ((print_request sent ++ body) ++ behind) left2
     reads =

@@ -178,17 +178,17 @@ tail_refused (refused_head k other) part rest more e reply tail told is why =
     (reply, ap refusal (one_refusal (judged (request_of k)) other e tail.4 refused) ∙ is, refl)
 
 tail_cut : (tail : Tail) (part rest more : List ℕ) → IsTail tail part → part ≡ rest ++ more
-    → LacksHead rest (Some more) h.CutShort ⊎ IsBodyCut rest (Some more) → IsCutTail tail
+    → LacksHead rest (Some more) h.CutShort ⊎ (IsBodyCut rest × HasEnded (Some more)) → IsCutTail tail
 tail_cut no_tail part rest more tail told (inl lacks) = lacks.0 (both_nil rest more (sym tail ∙ told)).0
 tail_cut no_tail part rest more tail told (inr cut) =
-    some_bytes cut.sent cut.body cut.is_head (sym (both_nil rest more (sym tail ∙ told)).0 ∙ cut.spelled)
+    some_bytes cut.0.sent cut.0.body cut.0.is_head (sym (both_nil rest more (sym tail ∙ told)).0 ∙ cut.0.spelled)
 tail_cut (cut_message m lacking) part rest more tail told why = tt
 tail_cut (cut_head k lacking) part rest more tail told why = tt
 tail_cut (refused_head k e) part rest more tail told (inl lacks) =
     lacks.1 k tail.0 (subst (λ (p : List ℕ). ReadsRequest p k tail.0) (all-read part rest more told lacks.2) tail.1)
 tail_cut (refused_head k e) part rest more tail told (inr cut) =
-    let same = request_unique part cut.sent k cut.body tail.0 (cut.is_head, all-read part rest more told cut.ended ∙ cut.spelled) tail.1 in
-    no_both (judged (request_of k)) cut.head e (ap (λ (r : RequestHead). judged (request_of r)) (sym same.0) ∙ cut.accepted) tail.4
+    let same = request_unique part cut.0.sent k cut.0.body tail.0 (cut.0.is_head, all-read part rest more told cut.1 ∙ cut.0.spelled) tail.1 in
+    no_both (judged (request_of k)) cut.0.head e (ap (λ (r : RequestHead). judged (request_of r)) (sym same.0) ∙ cut.0.accepted) tail.4
 
 -- ---- before a message
 
@@ -207,25 +207,25 @@ none_lacks m ms part rest more one told lacks =
     (all-read (all_bytes (m ∷ ms) ++ part) rest more told lacks.2) (first_reads m ms part one))
 
 none_cut : (m : Message) (ms : List Message) (part rest more : List ℕ) → IsWholeMessage m
-    → all_bytes (m ∷ ms) ++ part ≡ rest ++ more → IsBodyCut rest (Some more) → ⊥
+    → all_bytes (m ∷ ms) ++ part ≡ rest ++ more → IsBodyCut rest × HasEnded (Some more) → ⊥
 none_cut m ms part rest more one told cut = no_room
   where
-    heads : (m.sent ≡ cut.sent) × (m.body ++ (all_bytes ms ++ part) ≡ cut.body)
-    heads = request_unique (all_bytes (m ∷ ms) ++ part) m.sent cut.sent (m.body ++ (all_bytes ms ++ part)) cut.body
+    heads : (m.sent ≡ cut.0.sent) × (m.body ++ (all_bytes ms ++ part) ≡ cut.0.body)
+    heads = request_unique (all_bytes (m ∷ ms) ++ part) m.sent cut.0.sent (m.body ++ (all_bytes ms ++ part)) cut.0.body
         (first_reads m ms part one)
-        (cut.is_head, all-read (all_bytes (m ∷ ms) ++ part) rest more told cut.ended ∙ cut.spelled)
+        (cut.0.is_head, all-read (all_bytes (m ∷ ms) ++ part) rest more told cut.1 ∙ cut.0.spelled)
 
-    told_head : m.head ≡ cut.head
-    told_head = judged-same (judged (request_of m.sent)) m.head cut.head one.accepted
-        (ap (λ (k : RequestHead). judged (request_of k)) heads.0 ∙ cut.accepted)
+    told_head : m.head ≡ cut.0.head
+    told_head = judged-same (judged (request_of m.sent)) m.head cut.0.head one.accepted
+        (ap (λ (k : RequestHead). judged (request_of k)) heads.0 ∙ cut.0.accepted)
 
     no_room : ⊥
     no_room =
         let sum : length (m.body ++ (all_bytes ms ++ part)) ≡ length m.body + length (all_bytes ms ++ part) = length-append m.body (all_bytes ms ++ part) in
-        let same : length (m.body ++ (all_bytes ms ++ part)) ≡ length cut.body = ap (λ (b : List ℕ). length b) heads.1 in
+        let same : length (m.body ++ (all_bytes ms ++ part)) ≡ length cut.0.body = ap (λ (b : List ℕ). length b) heads.1 in
         let full : length m.body ≡ m.head.length = one.whole in
-        let long : m.head.length ≡ cut.head.length = ap (λ (k : Head). k.length) told_head in
-        let short : length cut.body < cut.head.length = cut.short in
+        let long : m.head.length ≡ cut.0.head.length = ap (λ (k : Head). k.length) told_head in
+        let lacking : length cut.0.body < cut.0.head.length = cut.0.lacking in
         omega arith
 
 -- ---- behind some messages
@@ -239,7 +239,7 @@ refused-behind tail (m ∷ ms) part rest more e reply valid is_tail told is why 
 
 pub cut-behind : (tail : Tail) (behind : List Message) (part rest more : List ℕ)
     → All IsWholeMessage behind → IsTail tail part → all_bytes behind ++ part ≡ rest ++ more
-    → LacksHead rest (Some more) h.CutShort ⊎ IsBodyCut rest (Some more) → (behind ≡ []) × IsCutTail tail
+    → LacksHead rest (Some more) h.CutShort ⊎ (IsBodyCut rest × HasEnded (Some more)) → (behind ≡ []) × IsCutTail tail
 cut-behind tail [] part rest more valid is_tail told why = (refl, tail_cut tail part rest more is_tail told why)
 cut-behind tail (m ∷ ms) part rest more valid is_tail told (inl lacks) =
     absurd (none_lacks m ms part rest more (All-head IsWholeMessage m ms valid) told lacks)

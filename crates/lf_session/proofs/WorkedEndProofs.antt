@@ -1,11 +1,14 @@
 -- The worked ends are some.
-use Rattle.std.proofs.Common.{refl, arith, [], true, inr, codes}
+use Rattle.std.proofs.Common.{◌≡◌, ◌≤◌, ◌∙◌, refl, ap, arith, List, [], ℕ, length, true, inr, Err, codes}
 use Rattle.std.specs.Char.{encode_utf8}
 use Rattle.std.proofs.lemmas.List.Elements.{All-nil}
-use Rattle.httparse.specs.Grammar.{RequestHead, IsRequestHead, IsField, is_token_byte, is_uri_byte, trim_ows, print_request, crlf}
-use Rattle.lf_http.specs.Judge.{method_of, target_of}
+use Rattle.httparse.specs.Grammar.{RequestHead, IsRequestHead, ReadsRequest, IsField, is_token_byte, is_uri_byte, trim_ows, print_request, crlf}
+use Rattle.httparse.proofs.GrammarLemmas.{request_unique}
+use Rattle.lf_http.specs.declared.head.HeadErr.{HeadErr}
+use Rattle.lf_http.specs.Judge.{method_of, target_of, request_of, judged}
 use Rattle.lf_session.specs.ReplyCases.{replies_open}
 use Rattle.lf_session.specs.Exchanges.{IsExchange}
+use Rattle.lf_session.specs.Session.{IsFirstRefusal}
 use Rattle.lf_session.specs.FirstSession.{request_head, commit_exchange}
 use Rattle.lf_session.specs.WorkedEnds.{closing_get, closing_patch, WorkedEnds}
 use Rattle.lf_session.proofs.FirstSessionProofs.{passes, a_head, one_field, as_it_was, commit-head}
@@ -42,9 +45,11 @@ patch-head = a_head (codes "PATCH") (codes "/version") _ (omega arith) refl (ome
     (one_field (codes "Connection") (codes " close") (omega arith) refl refl)
 
 get-is : IsExchange true 1 0 [] closing_get
-unfolding method_of target_of trim_ows
+unfolding print_request method_of target_of trim_ows
 get-is = record {
   is_head = get-head;
+  short = omega arith;
+  few = omega arith;
   accepted = refl;
   whole = refl;
   came = as_it_was [];
@@ -54,15 +59,28 @@ get-is = record {
 }
 
 patch-is : IsExchange true 1 0 [] closing_patch
-unfolding method_of target_of trim_ows
+unfolding print_request method_of target_of trim_ows
 patch-is = record {
   is_head = patch-head;
+  short = omega arith;
+  few = omega arith;
   accepted = refl;
   whole = refl;
   came = as_it_was [];
   went = as_it_was [];
   legal = λ legal. legal;
   answered = (refl, refl, refl);
+}
+
+-- the refusal of a whole head with few lines
+first-refusal : (bytes : List ℕ) (k : RequestHead) (rest : List ℕ) (e : HeadErr) → ReadsRequest bytes k rest → length k.fields ≤ 64
+    → judged (request_of k) ≡ Err e → IsFirstRefusal bytes e
+first-refusal bytes k rest e is few why = record {
+  many = λ h more reads lines.
+      let same : length h.fields ≡ length k.fields =
+      ap (λ (r : RequestHead). length r.fields) (request_unique bytes h k more rest reads is).0 in
+      absurd (omega arith);
+  own = λ h more reads short. ap (λ (r : RequestHead). judged (request_of r)) (request_unique bytes h k more rest reads is).0 ∙ why;
 }
 
 pub worked_ends : WorkedEnds
@@ -74,7 +92,7 @@ worked_ends = record {
     chain = tt;
     read = refl;
     wrote = refl;
-    stands = (refl, inr (bare, [], (bare-is, refl), refl), refl);
+    stands = (refl, inr (bare, [], (bare-is, refl), refl), first-refusal _ bare [] _ (bare-is, refl) (omega arith) refl, refl);
     ends = (_, _, refl, refl, refl);
     unread = λ e. refl;
   };
@@ -84,7 +102,7 @@ worked_ends = record {
     chain = tt;
     read = refl;
     wrote = refl;
-    stands = (refl, inr (put, [], (put-is, refl), refl), refl);
+    stands = (refl, inr (put, [], (put-is, refl), refl), first-refusal _ put [] _ (put-is, refl) (omega arith) refl, refl);
     ends = (_, _, refl, refl, refl);
     unread = λ e. refl;
   };
@@ -95,16 +113,20 @@ worked_ends = record {
     read = refl;
     wrote = refl;
     stands = (
-      inr (record {
-        sent = commit_exchange.sent;
-        head = commit_exchange.head;
-        body = codes "<http://e/a>";
-        is_head = commit-head;
-        accepted = refl;
-        spelled = refl;
-        short = omega arith;
-        ended = refl;
-      }),
+      inr (
+        record {
+          sent = commit_exchange.sent;
+          head = commit_exchange.head;
+          body = codes "<http://e/a>";
+          is_head = commit-head;
+          short = omega arith;
+          few = omega arith;
+          accepted = refl;
+          spelled = refl;
+          lacking = omega arith;
+        },
+        refl,
+      ),
       refl,
     );
     ends = (refl, refl);

@@ -1,9 +1,9 @@
 -- Requests and their replies, one after another, over a chain of legal histories.
-use Rattle.std.specs.Prelude.{◌≡◌, List, [], ◌∷◌, ◌++◌, ℕ, Bool, false, length, max, unwrap_or, Option, Ok}
+use Rattle.std.specs.Prelude.{◌≡◌, ◌≤◌, List, [], ◌∷◌, ◌++◌, ℕ, Bool, false, length, max, unwrap_or, Option, Ok}
 use Rattle.httparse.specs.Grammar.{RequestHead, IsRequestHead, print_request}
 use Rattle.lf_http.specs.declared.head.Head.{Head}
 use Rattle.lf_http.specs.Judge.{request_of, judged}
-use Rattle.lf_http.specs.Reading.{name_of}
+use Rattle.lf_http.specs.Reading.{longest_head, most_lines, name_of}
 use Rattle.lf_histories.specs.declared.operation.Operation.{Operation}
 use Rattle.lf_histories.specs.Legal.{IsLegal}
 use Rattle.lf_desk.specs.Accepted.{is_first_frame}
@@ -46,9 +46,11 @@ needed need head = told need head.seen
 abbrev pub need_of : ℕ → Exchange → ℕ
 need_of need x = told (needed need x.head) x.reply.version
 
--- The request was read whole, and was answered by the history before it with what others made.
+-- The request was read whole, with a head within the limits, and was answered by the history before it with what others made.
 pub record IsExchange (alone : Bool) (seat need : ℕ) (before : List Operation) (x : Exchange) : Type 0 where
   pub is_head : IsRequestHead x.sent
+  pub short : length (print_request x.sent) ≤ longest_head
+  pub few : length x.sent.fields ≤ most_lines
   pub accepted : judged (request_of x.sent) ≡ Ok x.head
   pub whole : length x.body ≡ x.head.length
   pub came : IsExtended alone seat before x.seen

@@ -45,9 +45,12 @@ asks_for_document asked.Delete = false
 asks_for_document asked.Commit = false
 asks_for_document asked.Version = false
 
--- A document, or the error or limit that stands in its place, is of one version. Pending comes where none is new enough.
+-- A document, or the error or limit that stands in its place, is of one version: whatever is sent as JSON-LD, each 200 for a
+-- frame's document, and each such reply that names a version. Pending comes where none is new enough.
 pub record IsTrusted (need : ℕ) (x : Exchange) : Type 0 where
   pub document : x.reply.ld_json ≡ true → IsOfOneVersion x.later (name_of x.sent.target) need x.reply
+  pub framed : asks_for_document (asked_by x.head) ≡ true → x.reply.status ≡ 200
+      → IsOfOneVersion x.later (name_of x.sent.target) need x.reply
   pub versioned : asks_for_document (asked_by x.head) ≡ true → is_some x.reply.version ≡ true
       → IsOfOneVersion x.later (name_of x.sent.target) need x.reply
   pub pending : x.reply.status ≡ 202 → IsStillPending x.seen (name_of x.sent.target) need x.reply

@@ -9,6 +9,7 @@ pub mod Exchanges
 pub mod Session
 pub mod Headline
 pub mod Served
+pub mod Refreshing
 pub mod Made
 pub mod Whole
 pub mod Told

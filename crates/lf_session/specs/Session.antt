@@ -1,13 +1,13 @@
 -- A whole stream: its requests, and how it ends.
-use Rattle.std.specs.Prelude.{◌≡◌, ◌⊎◌, ◌<◌, List, [], ◌++◌, ℕ, Bool, true, length, take, Option, Some, Ok}
-use Rattle.httparse.specs.Grammar.{RequestHead, IsRequestHead, print_request}
+use Rattle.std.specs.Prelude.{◌≡◌, ◌⊎◌, ◌≤◌, ◌<◌, List, [], ◌++◌, ℕ, Bool, true, length, take, Option, Some, Ok, Err}
+use Rattle.httparse.specs.Grammar.{RequestHead, IsRequestHead, ReadsRequest, print_request}
 use Rattle.lf_io.specs.Bytes.{HasEnded}
 use Rattle.lf_io.specs.Faults.{risen}
 use Rattle.lf_http.specs.declared.head.Head.{Head}
 use Rattle.lf_http.specs.declared.head.HeadErr.{HeadErr}
-use Rattle.lf_http.specs.declared.head.HeadErr.TheVariants.{CutShort as CutHead}
+use Rattle.lf_http.specs.declared.head.HeadErr.TheVariants.{CutShort as CutHead, ReadFault, TooLarge}
 use Rattle.lf_http.specs.Judge.{request_of, judged}
-use Rattle.lf_http.specs.Reading.{LacksHead, IsRefused}
+use Rattle.lf_http.specs.Reading.{LacksHead, IsRefused, longest_head, most_lines}
 use Rattle.lf_histories.specs.declared.operation.Operation.{Operation}
 use Rattle.lf_session.specs.declared.ended.Ended.{Ended}
 use Rattle.lf_session.specs.declared.ended.Ended.TheVariants as ended
@@ -35,25 +35,34 @@ due faulted = []
 due (no_room head) = reply_bytes head.method true out_of_memory
 due no_buffers = []
 
--- the bytes begin with an accepted head, and its body isn't whole
-pub record IsBodyCut (bytes : List ℕ) (left : Option (List ℕ)) : Type 0 where
+-- the bytes are an accepted head and a part of its body
+pub record IsBodyCut (bytes : List ℕ) : Type 0 where
   pub sent : RequestHead
   pub head : Head
   pub body : List ℕ
   pub is_head : IsRequestHead sent
+  pub short : length (print_request sent) ≤ longest_head
+  pub few : length sent.fields ≤ most_lines
   pub accepted : judged (request_of sent) ≡ Ok head
   pub spelled : bytes ≡ print_request sent ++ body
-  pub short : length body < head.length
-  pub ended : HasEnded left
+  pub lacking : length body < head.length
 
 -- the bytes begin with an accepted head that has a body
 pub record HasBody (bytes : List ℕ) (head : Head) : Type 0 where
   pub sent : RequestHead
   pub more : List ℕ
   pub is_head : IsRequestHead sent
+  pub short : length (print_request sent) ≤ longest_head
+  pub few : length sent.fields ≤ most_lines
   pub accepted : judged (request_of sent) ≡ Ok head
   pub spelled : bytes ≡ print_request sent ++ more
   pub some : 0 < head.length
+
+-- The first refusal of a whole head that applies: too many header lines, and then what its lines are refused for.
+pub record IsFirstRefusal (bytes : List ℕ) (e : HeadErr) : Type 0 where
+  pub many : (h : RequestHead) (rest : List ℕ) → ReadsRequest bytes h rest → most_lines < length h.fields → e ≡ TooLarge
+  pub own : (h : RequestHead) (rest : List ℕ) → ReadsRequest bytes h rest → length h.fields ≤ most_lines
+      → judged (request_of h) ≡ Err e
 
 -- What stands last in these bytes, which are all that were read behind the requests before, and the history after it.
 abbrev pub IsLast : Bool → ℕ → ℕ → List Operation → List ℕ → Option (List ℕ) → Last → List Operation → Type 0
@@ -61,9 +70,10 @@ IsLast alone seat need history bytes left nothing after = (bytes ≡ []) × HasE
 IsLast alone seat need history bytes left (request x) after =
     IsExchange alone seat need history x × ((more : List ℕ) × (bytes ≡ message_of x ++ more)) × (after ≡ history_of x)
 IsLast alone seat need history bytes left (refused e reply) after =
-    (refusal e ≡ Some reply) × IsRefused bytes left e × (after ≡ history)
-IsLast alone seat need history bytes left cut after = (LacksHead bytes left CutHead ⊎ IsBodyCut bytes left) × (after ≡ history)
-IsLast alone seat need history bytes left faulted after = after ≡ history
+    (refusal e ≡ Some reply) × IsRefused bytes left e × IsFirstRefusal bytes e × (after ≡ history)
+IsLast alone seat need history bytes left cut after =
+    (LacksHead bytes left CutHead ⊎ (IsBodyCut bytes × HasEnded left)) × (after ≡ history)
+IsLast alone seat need history bytes left faulted after = (LacksHead bytes left ReadFault ⊎ IsBodyCut bytes) × (after ≡ history)
 IsLast alone seat need history bytes left (no_room head) after = HasBody bytes head × (after ≡ history)
 IsLast alone seat need history bytes left no_buffers after = (bytes ≡ []) × (after ≡ history)
 

@@ -2,6 +2,7 @@ ghost use Rattle.lf_session.specs.BodyLaws.{BodiesAreJson};
 ghost use Rattle.lf_session.specs.FirstSession.{FirstSession};
 ghost use Rattle.lf_session.specs.Headline.{SessionsHold};
 ghost use Rattle.lf_session.specs.Made.{RepliesTellWhatWasMade};
+ghost use Rattle.lf_session.specs.Refreshing.{RefreshesAreAnswered};
 ghost use Rattle.lf_session.specs.Told.{StreamsEndAsTold};
 ghost use Rattle.lf_session.specs.Whole.{WholeStreamsAreServed};
 ghost use Rattle.lf_session.specs.WorkedEnds.{WorkedEnds};
@@ -20,6 +21,12 @@ pub fn sessions_hold()
 /// A reply tells whether its request made an operation.
 pub fn replies_tell_what_was_made()
     ensures { RepliesTellWhatWasMade }
+{}
+
+/// A `GET` of a live name with `Ld-Refresh: now` is answered by a document where the newest version is new enough, unless the
+/// name was retired meanwhile or no memory is found.
+pub fn refreshes_are_answered()
+    ensures { RefreshesAreAnswered }
 {}
 
 /// A stream of whole messages is answered to its end, or until it asks to close, unless a read or a write fails or no memory

@@ -15,7 +15,7 @@ mod tests;
 
 pub use ended::Ended;
 pub use law::{
-    bodies_are_json, first_session, replies_tell_what_was_made, sessions_hold, streams_end_as_told,
-    whole_streams_are_served, worked_ends,
+    bodies_are_json, first_session, refreshes_are_answered, replies_tell_what_was_made,
+    sessions_hold, streams_end_as_told, whole_streams_are_served, worked_ends,
 };
 pub use serve::serve_stream;

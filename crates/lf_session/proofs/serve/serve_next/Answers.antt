@@ -9,7 +9,8 @@ returns-in-Err-clause-serves g c =
     (g.S.Source.left c.args.input.now) (g.S.Source.left c.read_head.new.source)
     (g.K.Sink.held c.args.output.now) (g.K.Sink.held c.refuse.new.output)
     c.args.buffers.now.pending c.read_head.new.buffers.pending c.in-Err.e c.refuse.result
-    c.in-Err.ensures.unused c.in-Err.ensures.refused c.refuse.ensures.ends
+    c.in-Err.ensures.unused c.in-Err.ensures.refused
+    (record { many = c.in-Err.ensures.many; own = c.in-Err.ensures.exact }) c.refuse.ensures.ends
 
 pub returns-in-Err-CutShort-clause-serves : goal.returns-in-Err-CutShort-clause-serves
 returns-in-Err-CutShort-clause-serves g c =
@@ -18,7 +19,8 @@ returns-in-Err-CutShort-clause-serves g c =
     (g.S.Source.left c.args.input.now) (g.S.Source.left c.read_head.new.source) (g.S.Source.left c.read_body.new.source)
     (g.K.Sink.held c.args.output.now)
     c.args.buffers.now.pending c.read_head.new.buffers.pending c.read_body.new.buffers.body head.0 c.in-Ok-Some.head
-    head.1 head.3 head.2 (search rules) (search rules) (search rules)
+    (record { is_head = head.1; short = head.5; few = head.6; accepted = head.3 }) head.2
+    (search rules) (search rules) (search rules)
 
 pub returns-in-Err-ReadFault-clause-serves : goal.returns-in-Err-ReadFault-clause-serves
 returns-in-Err-ReadFault-clause-serves g c =
@@ -26,9 +28,9 @@ returns-in-Err-ReadFault-clause-serves g c =
     ends_faulted (g.D.Desk.alone c.args.desk.now) (g.D.Desk.seat c.args.desk.now) c.args.need.now (g.D.Desk.history c.args.desk.now)
     (g.S.Source.left c.args.input.now) (g.S.Source.left c.read_head.new.source) (g.S.Source.left c.read_body.new.source)
     (g.K.Sink.held c.args.output.now)
-    c.args.buffers.now.pending (print_request head.0) c.read_head.new.buffers.pending
-    (c.read_body.new.buffers.body ++ c.read_body.new.buffers.pending)
-    head.2 c.read_body.ensures.taken
+    c.args.buffers.now.pending c.read_head.new.buffers.pending c.read_body.new.buffers.body head.0 c.in-Ok-Some.head
+    (record { is_head = head.1; short = head.5; few = head.6; accepted = head.3 }) head.2
+    (search rules) (search rules)
 
 pub returns-in-Err-Memory-clause-serves : goal.returns-in-Err-Memory-clause-serves
 returns-in-Err-Memory-clause-serves g c =
@@ -38,7 +40,8 @@ returns-in-Err-Memory-clause-serves g c =
     (g.K.Sink.held c.args.output.now) (g.K.Sink.held c.starve.new.output)
     c.args.buffers.now.pending c.read_head.new.buffers.pending
     (c.read_body.new.buffers.body ++ c.read_body.new.buffers.pending) head.0 c.in-Ok-Some.head c.starve.result
-    head.1 head.3 head.2 c.read_body.ensures.taken (search rules) c.starve.ensures.ends
+    (record { is_head = head.1; short = head.5; few = head.6; accepted = head.3 }) head.2
+    c.read_body.ensures.taken (search rules) c.starve.ensures.ends
 
 pub returns-clause-serves : goal.returns-clause-serves
 returns-clause-serves g c =
@@ -49,6 +52,7 @@ returns-clause-serves g c =
     (g.K.Sink.held c.args.output.now) (g.K.Sink.held c.reply.new.output)
     c.args.buffers.now.pending c.read_head.new.buffers.pending c.reply.new.buffers.pending
     head.0 c.in-Ok-Some.head c.read_body.new.buffers.name c.read_body.new.buffers.body c.reply.result
-    head.1 head.3 (search rules) (c.read_body.ensures.name ∙ head.4) head.2
+    (record { is_head = head.1; short = head.5; few = head.6; accepted = head.3 })
+    (search rules) (c.read_body.ensures.name ∙ head.4) head.2
     (search rules)
     c.reply.ensures.replies

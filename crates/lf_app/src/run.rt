@@ -4,7 +4,7 @@ ghost use Rattle.lf_io.specs.Faults.{risen};
 ghost use Rattle.lf_app.specs.Answers.{Answer, Comes, IsTried, IsNotBuilt, IsFramed, text_of, usage_line, shelf_faults_after, shelf_refusals_after, cannot_read};
 ghost use Rattle.lf_session.specs.declared.ended.Ended.{Ended};
 ghost use Rattle.lf_app.specs.Sessions.{RunsSession, status_of};
-ghost use Rattle.lf_app.specs.Statuses.{IsStatus};
+ghost use Rattle.lf_app.specs.Statuses.{IsPlainStatus};
 ghost use Rattle.lf_app.specs.Words.{files_named, is_session};
 
 use crate::answer::{Said, answer};
@@ -28,7 +28,8 @@ pub fn run_words<S: Source, K: Sink, F: Shelf>(
     output: &mut K,
     shelf: &mut F,
 ) -> u8
-    ensures statuses { IsStatus result }
+    // Words other than `session` end with 0, 2, 4, 5, 9 or 12, and `session` as its stream ends.
+    ensures statuses { is_session (map string_bytes words.now) ≡ false → IsPlainStatus result }
 
     // 0, where the words aren't `session`: the output holds the document of the two files and LF.
     ensures framed { result ≡ 0 → is_session (map string_bytes words.now) ≡ false → (document : List ℕ) × IsFramed (F.files shelf.old) (map string_bytes words.now) document
@@ -73,6 +74,9 @@ pub fn run_words<S: Source, K: Sink, F: Shelf>(
     ensures session { is_session (map string_bytes words.now) ≡ true → (ended : Ended)
         × RunsSession (record { left_before = S.left input.old; left_after = S.left input.new; held_before = K.held output.old; held_after = K.held output.new }) ended
         × (result ≡ status_of ended) }
+    ensures shelf { is_session (map string_bytes words.now) ≡ true → shelf.new ≡ shelf.old }
+
+    // Other words take nothing of the input, and no words change a file.
     ensures input { is_session (map string_bytes words.now) ≡ false → input.new ≡ input.old }
     ensures files { F.files shelf.new ≡ F.files shelf.old }
 {

@@ -329,5 +329,14 @@ fn a_failed_write_ends_the_stream(rt: HostRuntime) -> Result<(), Fail> {
         assert_eq!(rt; sent.len() as u64, call.min(all.len() as u64));
         assert!(rt; all.starts_with(sent.as_str()));
     }
+    // The second write fails, after the first took ten bytes.
+    let streams = Streams {
+        piece: 10,
+        read: u64::MAX,
+        write: 1,
+    };
+    let (status, sent) = session(alloc, input.as_str(), &streams)?;
+    assert_eq!(rt; status, 4);
+    assert_eq!(rt; sent.as_str(), "HTTP/1.1 2");
     Ok(())
 }

@@ -116,7 +116,7 @@ fn files_are_framed(rt: HostRuntime) -> Result<(), Fail> {
 #[test]
 fn words_are_refused(rt: HostRuntime) -> Result<(), Fail> {
     let alloc = rt.alloc();
-    let lists: [&[&str]; 7] = [
+    let lists: [&[&str]; 11] = [
         &[],
         &["frame"],
         &["frame", "f"],
@@ -124,6 +124,10 @@ fn words_are_refused(rt: HostRuntime) -> Result<(), Fail> {
         &["frame", "-f", "d"],
         &["frame", "f", "-"],
         &["check", "f", "d"],
+        &["session", "a"],
+        &["session", "a=p"],
+        &["-session"],
+        &["sessions"],
     ];
     for words in lists {
         let (status, text) = run(alloc, words, "{}", PLAIN, &WELL)?;

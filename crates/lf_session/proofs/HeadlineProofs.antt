@@ -7,7 +7,7 @@ use Rattle.lf_http.specs.Reading.{name_of}
 use Rattle.lf_desk.specs.Accepted.{is_first_frame}
 use Rattle.lf_session.specs.Requests.{asked_by}
 use Rattle.lf_session.specs.Exchanges.{Exchange, IsExchange, IsChain, history_of, need_of, needed, last_history, last_need}
-use Rattle.lf_session.specs.Session.{Last, IsLast, IsSession}
+use Rattle.lf_session.specs.Session.{Last, IsLast}
 use Rattle.lf_session.specs.Session as session
 use Rattle.lf_session.specs.Headline.{IsTrusted, AreTrusted, SessionsHold, answered}
 use Rattle.lf_session.proofs.HeadlineTrust.{answered-trust}

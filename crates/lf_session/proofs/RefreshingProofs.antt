@@ -1,5 +1,5 @@
 -- A refresh is answered by a document, by cases of the look and of what was framed.
-use Rattle.std.proofs.Common.{◌≡◌, ◌≢◌, ◌≤◌, ◌<◌, ◌⊎◌, inl, inr, refl, sym, ◌∙◌, ap, subst, arith, List, ℕ, Bool, true, is_some, Option, Some, None, Result, Ok, Err}
+use Rattle.std.proofs.Common.{◌≡◌, ◌≢◌, ◌≤◌, ◌<◌, inl, inr, refl, ◌∙◌, ap, subst, arith, List, ℕ, Bool, true, is_some, Option, Some, None, Result, Ok, Err}
 use Rattle.std.specs.Arc.{arc_value}
 use Rattle.lf_base.specs.declared.memory.Memory.{Memory}
 use Rattle.lf_model.specs.declared.desk.Look.{Look}
@@ -17,8 +17,7 @@ use Rattle.lf_desk.specs.Looks.{Looks, Frames}
 use Rattle.lf_desk.specs.Seats.{IsExtended}
 use Rattle.lf_session.specs.declared.request.Asked.{Asked}
 use Rattle.lf_session.specs.declared.request.Asked.TheVariants as asked
-use Rattle.lf_session.specs.Replies.{Reply, document_reply, look_reply, framed_reply}
-use Rattle.lf_session.specs.Requests.{asked_by}
+use Rattle.lf_session.specs.Replies.{Reply, document_reply, framed_reply}
 use Rattle.lf_session.specs.Answers.{IsAnswered, Refreshes}
 use Rattle.lf_session.specs.Exchanges.{needed}
 use Rattle.lf_session.specs.Refreshing.{IsRefreshed, RefreshesAreAnswered}

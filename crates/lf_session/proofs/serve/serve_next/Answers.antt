@@ -1,5 +1,4 @@
 use Rattle.std.proofs.Common.{rules, ◌∙◌, ◌++◌}
-use Rattle.httparse.specs.Grammar.{print_request}
 use Rattle.lf_session.proofs.Serving.{ends_refused, ends_cut, ends_faulted, ends_starved, serves_request}
 use Rattle.lf_session.proofs.serve.serve_next.Goals as goal
 

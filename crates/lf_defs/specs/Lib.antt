@@ -40,6 +40,7 @@ pub use Rattle.lf_framing.specs.Matching
 pub use Rattle.lf_framing.specs.Parts
 pub use Rattle.lf_framing.specs.Embedding
 pub use Rattle.lf_framing.specs.Outcome
+pub use Rattle.lf_framing.specs.Nearness
 -- compaction and documents
 pub use Rattle.lf_printed.specs.JsonText
 pub use Rattle.lf_selection.specs.Slots

@@ -9,3 +9,4 @@ pub mod FlagCases
 pub mod Limits
 pub mod Chains
 pub mod Edges
+pub mod NearFrames

@@ -3,7 +3,7 @@ use lf_base::{Memory, Text, TryCopy};
 use lf_desk::Desk;
 use lf_histories::{Operation, OperationList};
 use lf_model::{CommitErr, Counted, Doc, FramedNow, Look, RegisterErr};
-use lf_rdf::{Patch, Quad, Signed, SignedList, Term};
+use lf_rdf::{Patch, Quad, Signed, SignedList, Term, xsd_string};
 use std::alloc::Global;
 use std::test::Fail;
 
@@ -12,8 +12,6 @@ const ALL: &str = "{}";
 const TYPED: &str = "{\"@type\":\"http://e/T\"}";
 
 const DOCUMENT: &str = "{\"@id\":\"http://e/a\",\"http://e/p\":\"x\"}";
-
-const XSD_STRING: &str = "http://www.w3.org/2001/XMLSchema#string";
 
 const NAMES: [&str; 16] = [
     "a", "b", "c", "d", "e", "f", "g", "h", "i", "j", "k", "l", "m", "n", "o", "p",
@@ -34,7 +32,7 @@ fn quad(alloc: Global, blank: Option<&str>) -> Result<Quad, Memory> {
         predicate: Term::Iri(Text::of(alloc, "http://e/p")?),
         object: Term::Literal {
             lexical: Text::of(alloc, "x")?,
-            datatype: Text::of(alloc, XSD_STRING)?,
+            datatype: xsd_string(alloc)?,
             language: None,
         },
         graph: None,

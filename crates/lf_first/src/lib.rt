@@ -11,4 +11,4 @@ pub use bytes::{after_byte, ascii_text};
 pub use error::FirstErr;
 pub use iri::iri_front;
 pub use laws::{first_by_line, one_frame, one_reading};
-pub use quad::{is_first_quad, is_rdf_type, is_string_byte};
+pub use quad::{is_first_quad, is_string_byte};

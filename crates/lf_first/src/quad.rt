@@ -1,34 +1,12 @@
 ghost use Rattle.std.specs.Prelude.{◌≡◌};
 ghost use Rattle.std.specs.List.{list_all};
 ghost use Rattle.lf_rdf.specs.Vocabulary.{rdf_type, xsd_string};
-ghost use Rattle.lf_rdf.specs.Equality.{text_eq, term_eq};
+ghost use Rattle.lf_rdf.specs.Equality.{term_eq};
 ghost use Rattle.lf_rdf.specs.declared.term.Term.TheVariants.{Iri};
 ghost use Rattle.lf_first.specs.First.{is_iri_byte, is_first_iri, is_string_byte, is_first_name, is_first_object, is_first_quad};
 
 use crate::iri::{is_absolute, is_iri_byte};
-use lf_rdf::{Quad, Term};
-
-/// `rdf:type` (RDF Schema 1.1, section 3.3).
-const RDF_TYPE: &str = "http://www.w3.org/1999/02/22-rdf-syntax-ns#type";
-
-/// `xsd:string` (RDF 1.1 Concepts, section 5.1).
-const XSD_STRING: &str = "http://www.w3.org/2001/XMLSchema#string";
-
-/// Whether a predicate is `rdf:type`.
-#[tactic(auto, unfolding(lf_rdf::specs::Vocabulary::rdf_type))]
-pub fn is_rdf_type(predicate: &str) -> bool
-    ensures { result ≡ text_eq predicate.now rdf_type }
-{
-    predicate == RDF_TYPE
-}
-
-/// Whether a datatype is `xsd:string`.
-#[tactic(auto, unfolding(lf_rdf::specs::Vocabulary::xsd_string))]
-fn is_xsd_string(datatype: &str) -> bool
-    ensures { result ≡ text_eq datatype.now xsd_string }
-{
-    datatype == XSD_STRING
-}
+use lf_rdf::{Quad, Term, is_rdf_type, is_xsd_string};
 
 /// Whether all bytes may stand in an IRI.
 fn is_iri_bytes(bytes: &[u8]) -> bool

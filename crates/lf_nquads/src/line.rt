@@ -1,16 +1,12 @@
-ghost use Rattle.std.specs.Prelude.{◌≡◌, IfOk};
+ghost use Rattle.std.specs.Prelude.{◌≡◌};
 ghost use Rattle.std.specs.List.{prefix_len};
-ghost use Rattle.lf_rdf.specs.Vocabulary.{xsd_string};
 ghost use Rattle.lf_first.specs.First.{is_string_byte};
-ghost use Rattle.lf_first.specs.Reading.{Gives, iri_at, string_front, string_at, object_at, after_end, line_at};
+ghost use Rattle.lf_first.specs.Reading.{Gives, iri_at, string_at, object_at, after_end, line_at};
 
-use lf_base::{Memory, Text};
-use lf_first::{FirstErr, after_byte, ascii_text, iri_front, is_rdf_type, is_string_byte};
-use lf_rdf::{Quad, Term};
+use lf_base::Text;
+use lf_first::{FirstErr, after_byte, ascii_text, iri_front, is_string_byte};
+use lf_rdf::{Quad, Term, is_rdf_type, xsd_string};
 use std::alloc::Global;
-
-/// `xsd:string` (RDF 1.1 Concepts, section 5.1).
-const XSD_STRING: &str = "http://www.w3.org/2001/XMLSchema#string";
 
 /// The IRI in angle brackets at the front, and what follows it.
 #[tactic(auto, unfolding(lf_first::specs::Reading::iri_at))]
@@ -46,14 +42,6 @@ fn string_of(alloc: Global, bytes: &[u8]) -> Result<(Text, &[u8]), FirstErr>
     Ok((ascii_text(alloc, value)?, rest))
 }
 
-/// The datatype of strings.
-#[tactic(auto, unfolding(lf_rdf::specs::Vocabulary::xsd_string))]
-fn string_type(alloc: Global) -> Result<Text, Memory>
-    ensures { IfOk result (λ datatype. datatype ≡ xsd_string) }
-{
-    Text::of(alloc, XSD_STRING)
-}
-
 /// The object of a line with this predicate: an IRI behind `rdf:type`, and otherwise a string.
 #[tactic(auto, unfolding(lf_first::specs::Reading::object_at))]
 fn object_of<'a>(
@@ -70,7 +58,7 @@ fn object_of<'a>(
     let (lexical, rest) = string_of(alloc, bytes)?;
     let literal = Term::Literal {
         lexical,
-        datatype: string_type(alloc)?,
+        datatype: xsd_string(alloc)?,
         language: None,
     };
     Ok((literal, rest))

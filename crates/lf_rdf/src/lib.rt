@@ -6,7 +6,9 @@ mod question;
 mod term;
 #[cfg(test)]
 mod tests;
+mod vocabulary;
 
 pub use quad::{Patch, Quad, QuadList, Signed, SignedList};
 pub use question::{Answer, GraphRef, Question, QuestionList};
 pub use term::{Term, TermList};
+pub use vocabulary::{is_rdf_type, is_xsd_string, xsd_string};

@@ -1,6 +1,6 @@
 -- What stands in order, and which nodes match.
 use Rattle.std.proofs.Common.{◌≡◌, ◌↔◌, ℕ, Bool, true, false, ◌&&◌, ◌||◌, cond, List, [], ◌∷◌, Option, Some, None, refl, ap, sym, ◌∙◌, subst, map}
-use Rattle.std.specs.Prelude.{IsTrue, is_none}
+use Rattle.std.specs.Prelude.{is_none}
 use Rattle.std.specs.declared.cmp.Ordering.{Ordering}
 use Rattle.std.specs.declared.cmp.Ordering.TheVariants.{Less, Equal, Greater}
 use Rattle.std.specs.Ordering.{is_eq, match_ordering, eq_by_cmp}
@@ -21,7 +21,7 @@ use Rattle.lf_small.specs.Values.{value_text, gives_type}
 use Rattle.lf_small.specs.Facts.{text_cmp, fact_of}
 use Rattle.lf_small.specs.Small.{about, subjects, is_wanted, matched}
 use Rattle.lf_small.specs.Laws.{OrdersMembers, IsMatched, MatchedNodes}
-use Rattle.lf_small.proofs.Ordered.{IsOrder, turned-greater, turned-less, tied}
+use Rattle.lf_small.proofs.Ordered.{IsOrder, turned-greater, tied}
 use Rattle.lf_small.proofs.Alike.{text_order, list_any-filter, list_any-map}
 
 -- ---- members in order

@@ -1,6 +1,5 @@
 -- What the plain document is meant to say.
 use Rattle.std.specs.Prelude.{◌≡◌, ◌↔◌, ℕ, IsTrue, List, map, Option, Some, None}
-use Rattle.std.specs.Option.{option_cmp}
 use Rattle.std.specs.List.{Any, Contains}
 use Rattle.std.specs.List.Sorted.{IsStrictlySortedBy}
 use Rattle.std.specs.declared.cmp.Ordering.{Ordering}

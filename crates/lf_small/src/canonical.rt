@@ -1,15 +1,10 @@
 //! Terms as texts (RDF 1.1 N-Quads, section 4).
-ghost use Rattle.std.specs.Prelude.{◌≡◌, ◌++◌, List, ℕ, IfOk, OnOk, IsTrue, encode_utf8, string_bytes};
+ghost use Rattle.std.specs.Prelude.{◌≡◌, ◌++◌, IfOk, OnOk, encode_utf8, string_bytes};
 ghost use Rattle.lf_rdf.specs.Canonical.{escaped, bracketed, quoted, id_of, suffix_of, term_text};
-ghost use Rattle.lf_rdf.specs.Equality.{text_eq};
-ghost use Rattle.lf_rdf.specs.Vocabulary.{xsd_string};
 
 use lf_base::{Memory, Text, TryCopy};
-use lf_rdf::Term;
+use lf_rdf::{Term, is_xsd_string};
 use std::alloc::Global;
-
-/// The datatype of a string (RDF 1.1 Concepts, section 5.1).
-const XSD_STRING: &str = "http://www.w3.org/2001/XMLSchema#string";
 
 /// Puts one character of a string at the end, escaped where canonical N-Quads escapes it.
 fn push_escaped_char(out: &mut String, character: char) -> Result<(), Memory>
@@ -55,14 +50,6 @@ fn push_quoted(out: &mut String, text: &str) -> Result<(), Memory>
     Ok(())
 }
 
-/// Whether a literal with this datatype is a plain string.
-#[tactic(auto, unfolding(lf_rdf::specs::Vocabulary::xsd_string))]
-fn is_string(datatype: &Text) -> bool
-    ensures { result ≡ text_eq datatype.now xsd_string }
-{
-    datatype.as_str() == XSD_STRING
-}
-
 /// Puts what follows the string of a literal at the end: its language, or a datatype other than `xsd:string`.
 fn push_suffix(out: &mut String, datatype: &Text, language: &Option<Text>) -> Result<(), Memory>
     ensures { OnOk result (string_bytes out.new ≡ string_bytes out.old ++ suffix_of datatype.now language.now) }
@@ -73,7 +60,7 @@ fn push_suffix(out: &mut String, datatype: &Text, language: &Option<Text>) -> Re
             out.push_str(tag.as_str())?;
         }
         None => {
-            if !is_string(datatype) {
+            if !is_xsd_string(datatype.as_str()) {
                 out.push_str("^^")?;
                 push_bracketed(out, datatype.as_str())?;
             }

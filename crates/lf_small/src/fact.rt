@@ -3,11 +3,8 @@ ghost use Rattle.lf_small.specs.Values.{gives_type, is_literal, value_text};
 
 use crate::canonical::{canonical_text, id_text};
 use lf_base::{Memory, Text, TryCopy};
-use lf_rdf::{Quad, Term};
+use lf_rdf::{Quad, Term, is_rdf_type};
 use std::alloc::Global;
-
-/// The predicate that gives a type (RDF Schema 1.1, section 3.3).
-const RDF_TYPE: &str = "http://www.w3.org/1999/02/22-rdf-syntax-ns#type";
 
 /// What one quad says of its subject.
 #[derive(Debug, PartialEq, Eq, PartialOrd, Ord, Drop)]
@@ -50,11 +47,10 @@ impl Fact {
 }
 
 /// Whether a predicate with this id gives a type by this object.
-#[tactic(auto, unfolding(lf_rdf::specs::Vocabulary::rdf_type))]
 fn gives_type(predicate: &Text, object: &Term) -> bool
     ensures { result ≡ gives_type predicate.now object.now }
 {
-    predicate.as_str() == RDF_TYPE && !is_literal(object)
+    is_rdf_type(predicate.as_str()) && !is_literal(object)
 }
 
 /// Whether a term is a literal.

@@ -1,9 +1,10 @@
 use crate::{
-    Container, DefaultList, DefaultValue, Doc, Embed, Frame, FrameKind, FrameNode, FrameNodeList,
-    FrameProp, FramePropList, FrameReverse, FrameReverseList, FramedNow, IdTest, Json, JsonMap,
-    LdError, Memory, NodeView, Notice, Outcome, PartTest, Prop, PropList, Scalar, ScalarList, Term,
-    TermDef, TermDefList, TermList, TermTable, Text, Tree, TreeList, TreePropList, TreeReverse,
-    TreeReverseList, TryCopy, TypeTest, Value, ValueList, ValuePattern,
+    CommitErr, Container, Counted, DefaultList, DefaultValue, Doc, Embed, Frame, FrameKind,
+    FrameNode, FrameNodeList, FrameProp, FramePropList, FrameReverse, FrameReverseList, FramedNow,
+    IdTest, Json, JsonMap, LdError, Memory, NodeView, Notice, Outcome, PartTest, Prop, PropList,
+    RegisterErr, Scalar, ScalarList, Term, TermDef, TermDefList, TermList, TermTable, Text, Tree,
+    TreeList, TreePropList, TreeReverse, TreeReverseList, TryCopy, TypeTest, Value, ValueList,
+    ValuePattern,
 };
 use std::alloc::Global;
 use std::test::Fail;
@@ -183,5 +184,28 @@ fn publications_copy(rt: HostRuntime) -> Result<(), Fail> {
     let kept = matches!(&now.doc, Doc::Refused(LdError::InvalidFrame)) && now.version == 4;
     drop(now);
     assert!(rt; kept);
+    Ok(())
+}
+
+#[test]
+fn errors_say_what_is_wrong(rt: HostRuntime) -> Result<(), Fail> {
+    let alloc = rt.alloc();
+    let full = CommitErr::HistoryFull {
+        of: Counted::Commits,
+        have: 65_536,
+        limit: 65_536,
+    };
+    let text = format!(in alloc; "{full}")?;
+    assert!(rt; text.as_str() == "history full: 65536 of 65536 commits");
+    let fractional = RegisterErr::Fractional {
+        path: Text::of(alloc, "/p/0")?,
+    };
+    let text = format!(in alloc; "{fractional}");
+    drop(fractional);
+    assert!(rt; text?.as_str() == "fractional number at /p/0");
+    let refused = RegisterErr::Ld(LdError::InvalidFrame);
+    let text = format!(in alloc; "{refused}");
+    drop(refused);
+    assert!(rt; text?.as_str() == "invalid frame");
     Ok(())
 }

@@ -6,18 +6,22 @@ ghost use Rattle.lf_http.specs.Reading.{to_come};
 use crate::buffers::{Buffers, drop_front};
 use lf_base::Memory;
 use lf_io::{Failed, Source};
+use thiserror::Error;
 
 /// How many bytes are read at once.
 const PIECE: usize = 4096;
 
 /// Why no body was read.
-#[derive(Clone, Copy, Debug, PartialEq, Eq)]
+#[derive(Clone, Copy, Debug, PartialEq, Eq, Error)]
 pub enum BodyErr {
     /// The input ended inside the body.
+    #[error("the input ended inside a body")]
     CutShort,
     /// A read failed.
+    #[error("a read failed")]
     ReadFault,
     /// No memory was found.
+    #[error("out of memory")]
     Memory,
 }
 

@@ -1,3 +1,5 @@
+use thiserror::Error;
+
 /// The method of a request (RFC 9110, section 9).
 #[derive(Clone, Copy, Debug, PartialEq, Eq)]
 pub enum Method {
@@ -46,20 +48,27 @@ pub struct Head {
 }
 
 /// Why no head was given.
-#[derive(Clone, Copy, Debug, PartialEq, Eq)]
+#[derive(Clone, Copy, Debug, PartialEq, Eq, Error)]
 pub enum HeadErr {
     /// A read failed.
+    #[error("a read failed")]
     ReadFault,
     /// The input ended inside the head.
+    #[error("the input ended inside a head")]
     CutShort,
     /// The head is longer than 16,384 bytes or has more than 64 header lines.
+    #[error("head too large")]
     TooLarge,
     /// The bytes are no head, or its `Host` or `Content-Length` lines are refused.
+    #[error("bad head")]
     BadHead,
     /// A length is needed, or the body has another encoding of its length.
+    #[error("length required")]
     LengthNeeded,
     /// The body is longer than 67,108,864 bytes.
+    #[error("body too long")]
     BodyTooLong,
     /// An expectation that isn't met.
+    #[error("expectation")]
     Expectation,
 }

@@ -3,15 +3,19 @@ ghost use Rattle.lf_io.specs.declared.shelf.ShelfErr.TheVariants.{Memory};
 ghost use Rattle.lf_io.specs.Files.{Files, MayHold, is_there, count_after_take, refusals_after_take};
 
 use std::alloc::{AllocError, Global};
+use thiserror::Error;
 
 /// Why a file wasn't taken.
-#[derive(Clone, Copy, Debug, PartialEq, Eq)]
+#[derive(Clone, Copy, Debug, PartialEq, Eq, Error)]
 pub enum ShelfErr {
     /// It isn't there or can't be read.
+    #[error("the file can't be read")]
     Failed,
     /// It is longer than the limit.
+    #[error("the file is too long")]
     TooLong,
     /// No memory was found.
+    #[error("out of memory")]
     Memory,
 }
 

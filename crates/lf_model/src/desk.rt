@@ -2,7 +2,9 @@ use crate::document::Doc;
 use crate::error::LdError;
 use lf_base::{ListOf, Memory, Text, TryCopy};
 use std::alloc::Global;
+use std::fmt;
 use std::sync::Arc;
+use thiserror::Error;
 
 /// What a history counts against its limits.
 #[derive(Clone, Copy, Debug, PartialEq, Eq)]
@@ -13,13 +15,27 @@ pub enum Counted {
     Bytes,
 }
 
+impl fmt::Display for Counted {
+    fn fmt<W: fmt::Write>(&self, f: &mut fmt::Formatter<W>) -> fmt::Result {
+        f.write_str(match self {
+            Counted::Commits => "commits",
+            Counted::Registrations => "registrations",
+            Counted::Bytes => "bytes",
+        })
+    }
+}
+
 /// Why a patch was not committed.
-#[derive(Clone, Copy, Debug, PartialEq, Eq)]
+#[derive(Clone, Copy, Debug, PartialEq, Eq, Error)]
 pub enum CommitErr {
     /// The patch has a quad that can't be framed yet, or the texts of the history grow too long for now.
+    #[error("not built")]
     NotBuilt,
+    #[error("history full: {have} of {limit} {of}")]
     HistoryFull { of: Counted, have: u64, limit: u64 },
+    #[error("too many quads: {have}, and {would} with the patch")]
     TooManyQuads { have: u64, would: u64 },
+    #[error("out of memory")]
     Memory,
 }
 
@@ -35,18 +51,27 @@ impl From<Memory> for CommitErr {
 }
 
 /// Why a frame was not registered.
-#[derive(Debug, Drop)]
+#[derive(Debug, Drop, Error)]
 pub enum RegisterErr {
+    #[error("bad name")]
     BadName,
+    #[error("frame too long: {length} bytes")]
     FrameTooLong { length: u64 },
+    #[error("not JSON")]
     NotJson,
     /// A number of the frame that is no whole number within range, by its path.
+    #[error("fractional number at {}", .path.as_str())]
     Fractional { path: Text },
+    #[error("{0}")]
     Ld(LdError),
     /// The frame is of a form that can't be used yet, or the texts of the history grow too long for now.
+    #[error("not built")]
     NotBuilt,
+    #[error("too many frames: {have}, and {would} with this one")]
     TooManyFrames { have: u64, would: u64 },
+    #[error("history full: {have} of {limit} {of}")]
     HistoryFull { of: Counted, have: u64, limit: u64 },
+    #[error("out of memory")]
     Memory,
 }
 

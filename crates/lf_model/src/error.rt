@@ -1,6 +1,9 @@
 ghost use Rattle.std.specs.Prelude.{◌≡◌};
 ghost use Rattle.lf_model.specs.ErrorName.{NamesDiffer, name_of};
 
+use std::error::Error;
+use std::fmt;
+
 /// The errors of contexts, frames and compaction, by their names in the standards
 /// (JSON-LD 1.1 Processing Algorithms and API, section 9.6; JSON-LD 1.1 Framing, section 5.3).
 #[derive(Clone, Copy, Debug, PartialEq, Eq)]
@@ -62,6 +65,14 @@ impl LdError {
         }
     }
 }
+
+impl fmt::Display for LdError {
+    fn fmt<W: fmt::Write>(&self, f: &mut fmt::Formatter<W>) -> fmt::Result {
+        f.write_str(self.name())
+    }
+}
+
+impl Error for LdError {}
 
 /// No two errors share a name.
 pub fn error_names_law()

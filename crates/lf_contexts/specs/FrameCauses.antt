@@ -29,7 +29,7 @@ is_truth (truth b) = true
 is_truth _ = false
 
 abbrev pub is_no_object : JsonValue → Bool
-is_no_object (object members) = false
+is_no_object (object _) = false
 is_no_object _ = true
 
 abbrev pub are_no_map : JsonItems → Bool
@@ -39,7 +39,7 @@ are_no_map (item value (item _ _)) = true
 
 -- a value that is neither a map nor an array of at most one map
 abbrev pub is_no_map : JsonValue → Bool
-is_no_map (object members) = false
+is_no_map (object _) = false
 is_no_map (array items) = are_no_map items
 is_no_map _ = true
 
@@ -52,7 +52,7 @@ abbrev mutual
   is_no_value (truth b) = false
   is_no_value (whole n) = false
   is_no_value (text t) = false
-  is_no_value (object members) = false
+  is_no_value (object _) = false
 
   pub are_no_value : JsonItems → Bool
   are_no_value no_items = false

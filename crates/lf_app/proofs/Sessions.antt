@@ -1,8 +1,8 @@
 -- A stream that is served from the empty history on has the headline.
 use Rattle.std.proofs.Common.{◌≡◌, ◌∙◌, refl, sym, ap, subst, Option, List, [], ◌∷◌, ◌++◌, ℕ, Bool, true, false}
 use Rattle.std.proofs.lemmas.Bool.{false≢true}
-use Rattle.lf_histories.specs.declared.operation.Operation.{Operation}
-use Rattle.lf_histories.specs.Legal.{IsLegal}
+use Rattle.def_histories.specs.declared.operation.Operation.{Operation}
+use Rattle.def_histories.specs.Legal.{IsLegal}
 use Rattle.lf_desk.specs.Accepted.{is_first_frame}
 use Rattle.lf_session.specs.declared.ended.Ended.{Ended}
 use Rattle.lf_session.specs.declared.ended.Ended.TheVariants as ended

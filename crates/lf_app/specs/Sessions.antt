@@ -1,6 +1,6 @@
 -- A run of the word `session`: one stream, served from the empty history on by a seat that is alone.
 use Rattle.std.specs.Prelude.{List, [], ℕ, true}
-use Rattle.lf_histories.specs.declared.operation.Operation.{Operation}
+use Rattle.def_histories.specs.declared.operation.Operation.{Operation}
 use Rattle.lf_session.specs.declared.ended.Ended.{Ended}
 use Rattle.lf_session.specs.declared.ended.Ended.TheVariants as ended
 use Rattle.lf_session.specs.Served.{Told, IsServed}

@@ -1,6 +1,6 @@
 -- Counts below the limits of a history are below the numbers that the code compares them with.
 use Rattle.std.proofs.Common.{ℕ, ◌<◌, ◌≤◌}
-use Rattle.lf_histories.specs.Legal.{most_commits, most_registrations}
+use Rattle.def_histories.specs.Legal.{most_commits, most_registrations}
 use Rattle.lf_desk.specs.Accepted.{most_first_bytes}
 
 pub few_registrations : (n : ℕ) → n < most_registrations → n < 65536

@@ -1,9 +1,9 @@
 -- A call of a desk that is alone.
 use Rattle.std.proofs.Common.{◌≡◌, refl, sym, ◌∙◌, ℕ, List, [], ◌∷◌, ◌++◌, Bool, true, false, cond, Ok}
 use Rattle.std.proofs.lemmas.List.{append-nil}
-use Rattle.lf_histories.specs.declared.operation.Operation.{Operation}
-use Rattle.lf_histories.specs.declared.operation.Operation.TheVariants.{Retire}
-use Rattle.lf_histories.specs.Legal.{IsLegal}
+use Rattle.def_histories.specs.declared.operation.Operation.{Operation}
+use Rattle.def_histories.specs.declared.operation.Operation.TheVariants.{Retire}
+use Rattle.def_histories.specs.Legal.{IsLegal}
 use Rattle.lf_desk.specs.Accepted.{is_first_frame}
 use Rattle.lf_desk.specs.Calls.{IsCall, retired_by}
 

@@ -5,8 +5,8 @@ use Rattle.std.proofs.lemmas.Bool.{false≢true, and_parts, ltb-false}
 use Rattle.std.proofs.lemmas.List.Folds.{find_at}
 use Rattle.std.proofs.lemmas.Option.{slice_get_past}
 use Rattle.lf_rdf.specs.Equality.{text_eq}
-use Rattle.lf_histories.specs.declared.live.Live.{Live}
-use Rattle.lf_histories.specs.History.{find_frame, without}
+use Rattle.def_histories.specs.declared.live.Live.{Live}
+use Rattle.def_histories.specs.History.{find_frame, without}
 use Rattle.lf_desk.specs.Looks.{is_new_enough}
 
 pub some_from : {A : Type 0} (o : Option A) → is_some o ≡ true → IsSome o

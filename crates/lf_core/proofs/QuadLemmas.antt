@@ -4,8 +4,8 @@ use Rattle.std.specs.List.{list_any}
 use Rattle.lf_rdf.specs.declared.quad.Quad.{Quad}
 use Rattle.lf_rdf.specs.declared.quad.Signed.{Signed}
 use Rattle.lf_rdf.specs.Equality.{quad_eq}
-use Rattle.lf_datasets.specs.Dataset.{holds, deletions}
-use Rattle.lf_datasets.proofs.OrderLaws.{quad_decides}
+use Rattle.def_datasets.specs.Dataset.{holds, deletions}
+use Rattle.def_datasets.proofs.OrderLaws.{quad_decides}
 
 pub same_quad : (a b : Quad) (r : Bool) → (IsTrue r ↔ (a ≡ b)) → r ≡ quad_eq a b
 same_quad a b true e = sym ((quad_decides a b).1 (e.0 refl))

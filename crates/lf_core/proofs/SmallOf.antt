@@ -4,8 +4,8 @@ use Rattle.std.specs.List.{Any, Contains, slice_index_or}
 use Rattle.std.proofs.lemmas.List.Folds.{Any-from_list_any, list_any-from_Any}
 use Rattle.lf_rdf.specs.declared.quad.Quad.{Quad}
 use Rattle.lf_rdf.specs.Equality.{quad_eq}
-use Rattle.lf_datasets.specs.Dataset.{holds}
-use Rattle.lf_datasets.proofs.OrderLaws.{quad_decides}
+use Rattle.def_datasets.specs.Dataset.{holds}
+use Rattle.def_datasets.proofs.OrderLaws.{quad_decides}
 use Rattle.lf_small.specs.Facts.{fact_of}
 use Rattle.lf_small.specs.Small.{small}
 use Rattle.lf_small.proofs.Alike.{Alike-map, Alike-from_contains, document_of-alike}

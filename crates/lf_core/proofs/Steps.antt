@@ -4,18 +4,18 @@ use Rattle.std.specs.List.{filter, list_all}
 use Rattle.std.proofs.lemmas.Bool.{and_parts, and_from}
 use Rattle.lf_rdf.specs.declared.quad.Patch.{Patch}
 use Rattle.lf_rdf.specs.Equality.{text_eq}
-use Rattle.lf_datasets.specs.Dataset.{after}
-use Rattle.lf_datasets.proofs.VersionProofs.{versions_are_datasets}
+use Rattle.def_datasets.specs.Dataset.{after}
+use Rattle.def_datasets.proofs.VersionProofs.{versions_are_datasets}
 use Rattle.lf_rdf.specs.declared.quad.Quad.{Quad}
-use Rattle.lf_histories.specs.declared.live.Live.{Live}
-use Rattle.lf_histories.specs.declared.operation.Operation.{Operation}
-use Rattle.lf_histories.specs.declared.operation.Operation.TheVariants.{Commit, Register, Retire}
-use Rattle.lf_histories.specs.History.{patches, commits, registrations, text_bytes, live, find_frame, without, registered}
-use Rattle.lf_histories.specs.Legal.{IsCommit, IsRegistration}
-use Rattle.lf_histories.specs.Replay.{newest_dataset}
-use Rattle.lf_histories.proofs.Appended.{registrations-append, text_bytes-append}
-use Rattle.lf_histories.proofs.LegalProofs.{allowed_is_legal}
-use Rattle.lf_histories.proofs.LiveProofs.{no_version, live_frames_step, commit_makes_version}
+use Rattle.def_histories.specs.declared.live.Live.{Live}
+use Rattle.def_histories.specs.declared.operation.Operation.{Operation}
+use Rattle.def_histories.specs.declared.operation.Operation.TheVariants.{Commit, Register, Retire}
+use Rattle.def_histories.specs.History.{patches, commits, registrations, text_bytes, live, find_frame, without, registered}
+use Rattle.def_histories.specs.Legal.{IsCommit, IsRegistration}
+use Rattle.def_histories.specs.Replay.{newest_dataset}
+use Rattle.def_histories.proofs.Appended.{registrations-append, text_bytes-append}
+use Rattle.def_histories.proofs.LegalProofs.{allowed_is_legal}
+use Rattle.def_histories.proofs.LiveProofs.{no_version, live_frames_step, commit_makes_version}
 use Rattle.lf_core.specs.Replayed.{IsReplayed}
 use Rattle.lf_core.specs.Unordered.{IsUnordered, kept, entered}
 use Rattle.lf_desk.specs.Accepted.{is_first_frame, most_first_bytes}

@@ -8,11 +8,11 @@ use Rattle.std.proofs.lemmas.List.Folds.{list_any-append}
 use Rattle.lf_rdf.specs.declared.quad.Quad.{Quad}
 use Rattle.lf_rdf.specs.declared.quad.Signed.{Signed}
 use Rattle.lf_rdf.specs.Equality.{quad_eq}
-use Rattle.lf_datasets.specs.Sorted.{placed, put_all}
-use Rattle.lf_datasets.specs.Order.{quad_cmp}
-use Rattle.lf_datasets.specs.Dataset.{is_dataset, holds, with_quad, dataset_of, additions, deletions, after}
-use Rattle.lf_datasets.proofs.SortedLaws.{same_members, ascends-put, ascends-filter, ascends-set_of, has-put, has-put_all, has-filter, has-without}
-use Rattle.lf_datasets.proofs.OrderLaws.{quad_strict, quad_decides}
+use Rattle.def_datasets.specs.Sorted.{placed, put_all}
+use Rattle.def_datasets.specs.Order.{quad_cmp}
+use Rattle.def_datasets.specs.Dataset.{is_dataset, holds, with_quad, dataset_of, additions, deletions, after}
+use Rattle.def_datasets.proofs.SortedLaws.{same_members, ascends-put, ascends-filter, ascends-set_of, has-put, has-put_all, has-filter, has-without}
+use Rattle.def_datasets.proofs.OrderLaws.{quad_strict, quad_decides}
 use Rattle.lf_core.specs.Unordered.{IsUnordered, kept, stays, found_new, entered}
 
 -- ---- the quads that are held

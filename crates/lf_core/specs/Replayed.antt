@@ -3,11 +3,11 @@ use Rattle.std.specs.Prelude.{◌≡◌, ◌≤◌, List, ℕ, ◌+◌, length, 
 use Rattle.std.specs.List.{list_all}
 use Rattle.lf_rdf.specs.declared.quad.Quad.{Quad}
 use Rattle.lf_desk.specs.Accepted.{is_first_frame, most_first_bytes}
-use Rattle.lf_histories.specs.declared.live.Live.{Live}
-use Rattle.lf_histories.specs.declared.operation.Operation.{Operation}
-use Rattle.lf_histories.specs.History.{commits, registrations, text_bytes, live_frames}
-use Rattle.lf_histories.specs.Legal.{IsLegal, most_quads}
-use Rattle.lf_histories.specs.Replay.{newest_dataset}
+use Rattle.def_histories.specs.declared.live.Live.{Live}
+use Rattle.def_histories.specs.declared.operation.Operation.{Operation}
+use Rattle.def_histories.specs.History.{commits, registrations, text_bytes, live_frames}
+use Rattle.def_histories.specs.Legal.{IsLegal, most_quads}
+use Rattle.def_histories.specs.Replay.{newest_dataset}
 use Rattle.lf_core.specs.Unordered.{IsUnordered}
 
 -- The quads, in any order, the live frames and the counts of a legal history. The history has places for the retirement

@@ -1,6 +1,6 @@
 -- What a desk of one state tells.
 use Rattle.std.specs.Prelude.{List, ℕ}
-use Rattle.lf_histories.specs.declared.operation.Operation.{Operation}
+use Rattle.def_histories.specs.declared.operation.Operation.{Operation}
 use Rattle.lf_core.specs.declared.core_desk.CoreDesk.{CoreDesk}
 
 -- the history of its state

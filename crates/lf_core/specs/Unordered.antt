@@ -3,8 +3,8 @@ use Rattle.std.specs.Prelude.{◌≡◌, List, [], ◌∷◌, ◌++◌, length, 
 use Rattle.lf_rdf.specs.declared.quad.Quad.{Quad}
 use Rattle.lf_rdf.specs.declared.quad.Signed.{Signed}
 use Rattle.lf_rdf.specs.Equality.{quad_eq}
-use Rattle.lf_datasets.specs.Sorted.{without}
-use Rattle.lf_datasets.specs.Dataset.{holds, dataset_of, deletions}
+use Rattle.def_datasets.specs.Sorted.{without}
+use Rattle.def_datasets.specs.Dataset.{holds, dataset_of, deletions}
 
 -- The quads are those of the dataset, each once, in any order.
 pub record IsUnordered (quads dataset : List Quad) : Type 0 where

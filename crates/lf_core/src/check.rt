@@ -1,5 +1,5 @@
 ghost use Rattle.std.specs.Prelude.{◌≡◌, ◌≤◌, length, IfOk, Some};
-ghost use Rattle.lf_histories.specs.History.{registrations, text_bytes};
+ghost use Rattle.def_histories.specs.History.{registrations, text_bytes};
 ghost use Rattle.lf_desk.specs.Accepted.{is_first_frame, most_first_bytes, is_not_built};
 ghost use Rattle.lf_desk.specs.RegisterAnswer.{is_live_text, others, limits_answer, register_answer, Answers};
 
@@ -34,7 +34,7 @@ fn is_first_frame(alloc: Global, text: &str) -> Result<bool, Memory>
 }
 
 /// What the limits of the history say of a text that may be registered.
-#[tactic(auto, unfolding(lf_histories::specs::Legal::most_frames, lf_histories::specs::Legal::most_registrations, lf_histories::specs::Legal::most_text_bytes))]
+#[tactic(auto, unfolding(def_histories::specs::Legal::most_frames, def_histories::specs::Legal::most_registrations, def_histories::specs::Legal::most_text_bytes))]
 fn check_limits(state: &State, name: &str, text: &str) -> Result<bool, RegisterErr>
     requires short { length text.now ≤ 65536 }
     ensures { result ≡ limits_answer state.now name.now text.now }
@@ -73,7 +73,7 @@ fn is_not_built(alloc: Global, state: &State, text: &str) -> Result<bool, Memory
 }
 
 /// Whether a text under a name is a new registration, or live already, or refused.
-#[tactic(auto, unfolding(lf_histories::specs::Legal::most_frame_bytes))]
+#[tactic(auto, unfolding(def_histories::specs::Legal::most_frame_bytes))]
 pub fn check_register(
     alloc: Global,
     state: &State,

@@ -1,12 +1,12 @@
 ghost use Rattle.std.specs.Prelude.{◌≡◌, ◌≤◌, ◌+◌, suc, length, nat_lt, not, if◌then◌else◌, Ok, Err, IfOk, IfErr};
 ghost use Rattle.std.specs.List.{list_all};
 ghost use Rattle.lf_first.specs.First.{is_first_quad};
-ghost use Rattle.lf_datasets.specs.Dataset.{after};
+ghost use Rattle.def_datasets.specs.Dataset.{after};
 ghost use Rattle.lf_model.specs.declared.desk.Counted.TheVariants.{Commits, Bytes};
 ghost use Rattle.lf_model.specs.declared.desk.CommitErr.TheVariants as c;
-ghost use Rattle.lf_histories.specs.History.{commits, text_bytes};
-ghost use Rattle.lf_histories.specs.Legal.{most_commits, most_quads, most_text_bytes};
-ghost use Rattle.lf_histories.specs.Replay.{newest_dataset};
+ghost use Rattle.def_histories.specs.History.{commits, text_bytes};
+ghost use Rattle.def_histories.specs.Legal.{most_commits, most_quads, most_text_bytes};
+ghost use Rattle.def_histories.specs.Replay.{newest_dataset};
 ghost use Rattle.lf_desk.specs.Accepted.{grows_too_long, is_patch_not_built};
 ghost use Rattle.lf_desk.specs.CommitAnswer.{commit_answer, CommitFails};
 ghost use Rattle.lf_core.specs.Unordered.{entered};
@@ -46,7 +46,7 @@ fn is_patch_not_built(state: &State, patch: &Patch) -> bool
 }
 
 /// What the limits of the history say of so many bytes, which are few enough so far.
-#[tactic(auto, unfolding(lf_histories::specs::Legal::most_commits, lf_histories::specs::Legal::most_text_bytes))]
+#[tactic(auto, unfolding(def_histories::specs::Legal::most_commits, def_histories::specs::Legal::most_text_bytes))]
 fn check_limits(state: &State, bytes: u64) -> Result<(), CommitErr>
     requires short { bytes ≤ 65536 }
     ensures { result ≡ (if not (nat_lt (commits state.now) most_commits)
@@ -81,7 +81,7 @@ fn quads_after(state: &State, lines: &[Signed], quads: &[Quad]) -> u64
 }
 
 /// What the limit of a version says of a patch that adds these quads to those that stay.
-#[tactic(auto, unfolding(lf_histories::specs::Legal::most_quads))]
+#[tactic(auto, unfolding(def_histories::specs::Legal::most_quads))]
 fn check_quads(state: &State, lines: &[Signed], quads: &[Quad]) -> Result<(), CommitErr>
     requires entered { quads.now ≡ entered (newest_dataset state.now) lines.now }
     ensures { result ≡ (if nat_lt most_quads (length (after (newest_dataset state.now) lines.now))

@@ -1,5 +1,5 @@
 ghost use Rattle.std.specs.Prelude.{◌≡◌, true};
-ghost use Rattle.lf_histories.specs.Legal.{IsLegal};
+ghost use Rattle.def_histories.specs.Legal.{IsLegal};
 ghost use Rattle.lf_desk.specs.Accepted.{is_first_frame};
 ghost use Rattle.lf_core.specs.Seat.{history_of, seat_of};
 

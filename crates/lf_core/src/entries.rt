@@ -1,8 +1,8 @@
 ghost use Rattle.std.specs.Prelude.{◌≡◌, ◌<◌, ◌≤◌, ◌+◌, [], ◌∷◌, ◌++◌, length, vec_len, vec_capacity, IfOk};
-ghost use Rattle.lf_histories.specs.declared.operation.Operation.TheVariants.{Register};
+ghost use Rattle.def_histories.specs.declared.operation.Operation.TheVariants.{Register};
 
+use def_histories::Operation;
 use lf_base::{Memory, Text};
-use lf_histories::Operation;
 use std::alloc::Global;
 
 /// Puts an entry at the end of a history that has a place for it.

@@ -2,10 +2,10 @@ ghost use Rattle.std.specs.Prelude.{◌≡◌, ◌<◌, ◌≤◌, ◌+◌, [], 
 ghost use Rattle.std.specs.List.{position};
 ghost use Rattle.std.specs.Option.{option_copied};
 ghost use Rattle.lf_rdf.specs.Equality.{text_eq};
-ghost use Rattle.lf_histories.specs.History.{find_frame, without, registered};
+ghost use Rattle.def_histories.specs.History.{find_frame, without, registered};
 
+use def_histories::Live;
 use lf_base::{Memory, Text};
-use lf_histories::Live;
 use std::alloc::Global;
 
 /// The frame of a name.

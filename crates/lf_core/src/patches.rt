@@ -1,6 +1,6 @@
 ghost use Rattle.std.specs.Prelude.{◌≡◌, ◌&&◌, not, IfOk};
-ghost use Rattle.lf_datasets.specs.Dataset.{holds};
-ghost use Rattle.lf_histories.specs.Replay.{newest_dataset};
+ghost use Rattle.def_datasets.specs.Dataset.{holds};
+ghost use Rattle.def_histories.specs.Replay.{newest_dataset};
 ghost use Rattle.lf_core.specs.Unordered.{stays, entered};
 
 use crate::quads::{is_deleted, is_held};

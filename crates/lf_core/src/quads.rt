@@ -1,7 +1,7 @@
 ghost use Rattle.std.specs.Prelude.{◌≡◌, ◌≤◌, ◌+◌, ◌++◌, ◌&&◌, not, length, IfOk, OnOk, OnErr, vec_capacity};
 ghost use Rattle.std.specs.List.{list_any};
 ghost use Rattle.lf_rdf.specs.Equality.{quad_eq};
-ghost use Rattle.lf_datasets.specs.Dataset.{holds, deletions};
+ghost use Rattle.def_datasets.specs.Dataset.{holds, deletions};
 ghost use Rattle.lf_core.specs.Unordered.{kept};
 
 use lf_base::{Memory, Same};

@@ -1,14 +1,14 @@
 ghost use Rattle.std.specs.Prelude.{length, suc, ◌≡◌, [], ◌∷◌, ◌++◌, ◌≤◌, Ok, IfOk, OnOk, OnErr, true, is_some, if◌then◌else◌};
 ghost use Rattle.std.specs.Option.{option_copied};
-ghost use Rattle.lf_histories.specs.declared.operation.Operation.TheVariants.{Commit, Register, Retire};
-ghost use Rattle.lf_histories.specs.History.{commits, registrations, text_bytes, live};
-ghost use Rattle.lf_histories.specs.Legal.{IsLegal, live_text};
+ghost use Rattle.def_histories.specs.declared.operation.Operation.TheVariants.{Commit, Register, Retire};
+ghost use Rattle.def_histories.specs.History.{commits, registrations, text_bytes, live};
+ghost use Rattle.def_histories.specs.Legal.{IsLegal, live_text};
 ghost use Rattle.lf_desk.specs.Accepted.{is_first_frame};
 ghost use Rattle.lf_desk.specs.RegisterAnswer.{is_live_text, others, register_answer, registered_by, Answers};
 ghost use Rattle.lf_desk.specs.CommitAnswer.{commit_answer, CommitAnswers, committed_by};
 ghost use Rattle.lf_desk.specs.Looks.{Looks, Frames};
-ghost use Rattle.lf_datasets.specs.Dataset.{holds};
-ghost use Rattle.lf_histories.specs.Replay.{newest_dataset};
+ghost use Rattle.def_datasets.specs.Dataset.{holds};
+ghost use Rattle.def_histories.specs.Replay.{newest_dataset};
 ghost use Rattle.lf_core.specs.Unordered.{kept, entered};
 
 use crate::check::check_register;
@@ -17,8 +17,8 @@ use crate::entries::{enter, make_places, registration};
 use crate::framed::document_of;
 use crate::frames::{enter_frame, find_frame, frame_of, make_frame_places, remove_name, take_name};
 use crate::quads::{change, is_held, kept_count};
+use def_histories::{Live, Operation};
 use lf_base::{Memory, Text};
-use lf_histories::{Live, Operation};
 use lf_model::{CommitErr, FramedNow, Look, RegisterErr};
 use lf_rdf::{Patch, Quad, QuadList, Signed};
 use std::alloc::Global;
@@ -38,7 +38,7 @@ pub struct State {
 
 impl Model for State {
     ghost use Rattle.std.specs.Prelude.{List, vec_capacity};
-    ghost use Rattle.lf_histories.specs.declared.operation.Operation.{Operation};
+    ghost use Rattle.def_histories.specs.declared.operation.Operation.{Operation};
     ghost use Rattle.lf_core.specs.Replayed.{IsReplayed};
 
     ghost Value = { List Operation };
@@ -166,7 +166,7 @@ impl State {
     }
 
     /// How many quads of the newest version stay where a patch is applied.
-    #[tactic(auto, using(crate::proofs::UnorderedProofs::kept_unordered), unfolding(lf_histories::specs::Legal::most_quads))]
+    #[tactic(auto, using(crate::proofs::UnorderedProofs::kept_unordered), unfolding(def_histories::specs::Legal::most_quads))]
     pub(crate) fn kept_count(&self, lines: &[Signed]) -> u64
         ensures told { result ≡ length (kept (newest_dataset self.now) lines.now) }
         ensures few { result ≤ 400000 }

@@ -1,7 +1,7 @@
 use crate::{CoreDesk, State};
+use def_histories::{Operation, OperationList};
 use lf_base::{Memory, Text, TryCopy};
 use lf_desk::Desk;
-use lf_histories::{Operation, OperationList};
 use lf_model::{CommitErr, Counted, Doc, FramedNow, Look, RegisterErr};
 use lf_rdf::{Patch, Quad, Signed, SignedList, Term, xsd_string};
 use std::alloc::Global;

@@ -14,48 +14,48 @@ pub use Rattle.lf_model.specs.TreeData
 pub use Rattle.lf_model.specs.TreeBridge
 pub use Rattle.lf_model.specs.ErrorName
 -- patch texts
-pub use Rattle.lf_grammar.specs.PatchText
-pub use Rattle.lf_grammar.specs.BadLine
+pub use Rattle.def_patch_texts.specs.PatchText
+pub use Rattle.def_patch_texts.specs.BadLine
 -- datasets, questions, list cells and views
-pub use Rattle.lf_datasets.specs.Dataset
-pub use Rattle.lf_datasets.specs.Terms
-pub use Rattle.lf_datasets.specs.Questions
-pub use Rattle.lf_datasets.specs.Near
-pub use Rattle.lf_datasets.specs.Cells
-pub use Rattle.lf_datasets.specs.Values
-pub use Rattle.lf_datasets.specs.Views
+pub use Rattle.def_datasets.specs.Dataset
+pub use Rattle.def_datasets.specs.Terms
+pub use Rattle.def_datasets.specs.Questions
+pub use Rattle.def_datasets.specs.Near
+pub use Rattle.def_datasets.specs.Cells
+pub use Rattle.def_datasets.specs.Values
+pub use Rattle.def_datasets.specs.Views
 -- what is learnt by asking
 pub use Rattle.lf_oracle.specs.Asking
 pub use Rattle.lf_oracle.specs.Nearby
 pub use Rattle.lf_oracle.specs.NodeViews
 -- contexts and frames
-pub use Rattle.lf_contexts.specs.Table
-pub use Rattle.lf_contexts.specs.Expansion
-pub use Rattle.lf_contexts.specs.Frames
-pub use Rattle.lf_nested.specs.Nested
-pub use Rattle.lf_nested.specs.Unfolding
+pub use Rattle.def_contexts.specs.Table
+pub use Rattle.def_contexts.specs.Expansion
+pub use Rattle.def_contexts.specs.Frames
+pub use Rattle.def_nested.specs.Nested
+pub use Rattle.def_nested.specs.Unfolding
 -- matching and embedding
-pub use Rattle.lf_framing.specs.ValuePatterns
-pub use Rattle.lf_framing.specs.Matching
-pub use Rattle.lf_framing.specs.Parts
-pub use Rattle.lf_framing.specs.Embedding
-pub use Rattle.lf_framing.specs.Outcome
-pub use Rattle.lf_framing.specs.Nearness
+pub use Rattle.def_framing.specs.ValuePatterns
+pub use Rattle.def_framing.specs.Matching
+pub use Rattle.def_framing.specs.Parts
+pub use Rattle.def_framing.specs.Embedding
+pub use Rattle.def_framing.specs.Outcome
+pub use Rattle.def_framing.specs.Nearness
 -- compaction and documents
-pub use Rattle.lf_printed.specs.JsonText
-pub use Rattle.lf_selection.specs.Slots
-pub use Rattle.lf_selection.specs.Chosen
-pub use Rattle.lf_selection.specs.Iris
-pub use Rattle.lf_documents.specs.Values as CompactedValues
-pub use Rattle.lf_documents.specs.Entries as PropertyEntries
-pub use Rattle.lf_documents.specs.Nodes
-pub use Rattle.lf_documents.specs.Pruning
-pub use Rattle.lf_documents.specs.Document
-pub use Rattle.lf_scratch.specs.Scratch
+pub use Rattle.def_printed.specs.JsonText
+pub use Rattle.def_selection.specs.Slots
+pub use Rattle.def_selection.specs.Chosen
+pub use Rattle.def_selection.specs.Iris
+pub use Rattle.def_documents.specs.Values as CompactedValues
+pub use Rattle.def_documents.specs.Entries as PropertyEntries
+pub use Rattle.def_documents.specs.Nodes
+pub use Rattle.def_documents.specs.Pruning
+pub use Rattle.def_documents.specs.Document
+pub use Rattle.def_scratch.specs.Scratch
 -- histories and desks
-pub use Rattle.lf_histories.specs.History
-pub use Rattle.lf_histories.specs.Replay
-pub use Rattle.lf_histories.specs.Legal
+pub use Rattle.def_histories.specs.History
+pub use Rattle.def_histories.specs.Replay
+pub use Rattle.def_histories.specs.Legal
 pub use Rattle.lf_desk.specs.Seats
 pub use Rattle.lf_desk.specs.Calls
 pub use Rattle.lf_desk.specs.RegisterAnswer

@@ -5,10 +5,11 @@
 #[cfg(test)]
 mod tests;
 
+pub use def_histories::{Live, Operation, OperationList};
+pub use def_patch_texts::LineKind;
+pub use def_selection::{ContainerList, Pick, PickKind};
 pub use lf_base::{ListOf, Memory, Same, Steps, Text, TextList, TryCopy};
 pub use lf_desk::Desk;
-pub use lf_grammar::LineKind;
-pub use lf_histories::{Live, Operation, OperationList};
 pub use lf_model::{
     CommitErr, Container, Counted, DefaultList, DefaultValue, Doc, Embed, Frame, FrameKind,
     FrameNode, FrameNodeList, FrameProp, FramePropList, FrameReverse, FrameReverseList, FramedNow,
@@ -22,5 +23,4 @@ pub use lf_rdf::{
     Answer, GraphRef, Patch, Quad, QuadList, Question, QuestionList, Signed, SignedList, Term,
     TermList,
 };
-pub use lf_selection::{ContainerList, Pick, PickKind};
 pub use lf_sorted::{Entry, MapOf};

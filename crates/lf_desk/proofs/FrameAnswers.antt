@@ -2,12 +2,12 @@
 use Rattle.std.proofs.Common.{◌≡◌, refl, sym, ◌∙◌, ap, ℕ, ◌+◌, ◌≤◌, List, length, nat_lt, Bool, true, false, not, cond, Some, Result, Ok, Err}
 use Rattle.std.proofs.lemmas.Bool.{false≢true, not-true, not-false, not_from_true, not_from_false, false_from_ne_true, ltb-false, ltb-true, lt-ltb, le-ltb}
 use Rattle.std.specs.Cmp.Lexicographic.{bytes_decides}
-use Rattle.lf_datasets.proofs.OrderLaws.{option_decides}
+use Rattle.def_datasets.proofs.OrderLaws.{option_decides}
 use Rattle.lf_rdf.specs.Equality.{text_eq}
 use Rattle.lf_model.specs.declared.desk.RegisterErr.{RegisterErr}
-use Rattle.lf_histories.specs.declared.operation.Operation.{Operation}
-use Rattle.lf_histories.specs.History.{registrations, text_bytes}
-use Rattle.lf_histories.specs.Legal.{IsRegistration, is_frame_name, live_text, most_frame_bytes, most_frames, most_registrations, most_text_bytes}
+use Rattle.def_histories.specs.declared.operation.Operation.{Operation}
+use Rattle.def_histories.specs.History.{registrations, text_bytes}
+use Rattle.def_histories.specs.Legal.{IsRegistration, is_frame_name, live_text, most_frame_bytes, most_frames, most_registrations, most_text_bytes}
 use Rattle.lf_desk.specs.Accepted.{is_first_frame, most_first_bytes, is_not_built}
 use Rattle.lf_desk.specs.RegisterAnswer.{register_answer, is_live_text, others, limits_answer}
 use Rattle.lf_desk.specs.AnswerLaws.{AcceptsAllowedFrames, SameTextAgain}

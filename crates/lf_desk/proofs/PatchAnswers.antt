@@ -5,11 +5,11 @@ use Rattle.std.proofs.lemmas.Bool.{not-true, not-false, not_from_true, not_from_
 use Rattle.lf_rdf.specs.declared.quad.Patch.{Patch}
 use Rattle.lf_rdf.specs.declared.quad.Signed.{Signed}
 use Rattle.lf_first.specs.First.{is_first_quad}
-use Rattle.lf_datasets.specs.Dataset.{after}
-use Rattle.lf_histories.specs.declared.operation.Operation.{Operation}
-use Rattle.lf_histories.specs.History.{commits, text_bytes}
-use Rattle.lf_histories.specs.Legal.{IsCommit, most_commits, most_quads, most_text_bytes}
-use Rattle.lf_histories.specs.Replay.{newest_dataset}
+use Rattle.def_datasets.specs.Dataset.{after}
+use Rattle.def_histories.specs.declared.operation.Operation.{Operation}
+use Rattle.def_histories.specs.History.{commits, text_bytes}
+use Rattle.def_histories.specs.Legal.{IsCommit, most_commits, most_quads, most_text_bytes}
+use Rattle.def_histories.specs.Replay.{newest_dataset}
 use Rattle.lf_desk.specs.Accepted.{most_first_bytes, grows_too_long, is_patch_not_built}
 use Rattle.lf_desk.specs.CommitAnswer.{commit_answer, quads_after}
 use Rattle.lf_desk.specs.AnswerLaws.{AcceptsAllowedPatches}

@@ -5,8 +5,8 @@ use Rattle.lf_rdf.specs.declared.quad.Signed.{Signed}
 use Rattle.lf_rdf.specs.declared.quad.Patch.{Patch}
 use Rattle.lf_first.specs.First.{is_first_quad}
 use Rattle.lf_expand.specs.FirstFrame.{frame_at}
-use Rattle.lf_histories.specs.declared.operation.Operation.{Operation}
-use Rattle.lf_histories.specs.History.{text_bytes}
+use Rattle.def_histories.specs.declared.operation.Operation.{Operation}
+use Rattle.def_histories.specs.History.{text_bytes}
 
 -- the frame texts that can be used so far: those of the first form
 unfoldable pub is_first_frame : List ℕ → Bool

@@ -5,10 +5,10 @@ use Rattle.lf_rdf.specs.declared.quad.Patch.{Patch}
 use Rattle.lf_model.specs.declared.document.Doc.TheVariants.{Bytes}
 use Rattle.lf_first.specs.First.{IsFirstFrame}
 use Rattle.lf_small.specs.Small.{small}
-use Rattle.lf_histories.specs.declared.operation.Operation.{Operation}
-use Rattle.lf_histories.specs.declared.operation.Operation.TheVariants.{Commit, Register}
-use Rattle.lf_histories.specs.History.{commits}
-use Rattle.lf_histories.specs.Legal.{most_frame_bytes, is_frame_name, live_text, IsAllowed}
+use Rattle.def_histories.specs.declared.operation.Operation.{Operation}
+use Rattle.def_histories.specs.declared.operation.Operation.TheVariants.{Commit, Register}
+use Rattle.def_histories.specs.History.{commits}
+use Rattle.def_histories.specs.Legal.{most_frame_bytes, is_frame_name, live_text, IsAllowed}
 use Rattle.lf_desk.specs.Accepted.{is_first_frame, is_not_built, is_patch_not_built}
 use Rattle.lf_desk.specs.CommitAnswer.{commit_answer}
 use Rattle.lf_desk.specs.RegisterAnswer.{register_answer}

@@ -1,10 +1,10 @@
 -- A call of a desk: what others made before it comes first, and what the call itself made is the last entry.
 use Rattle.std.specs.Prelude.{◌≡◌, List, [], ◌∷◌, ◌++◌, ℕ, Bool, true, false, is_some, Result, Ok, Err}
 use Rattle.lf_base.specs.declared.memory.Memory.{Memory}
-use Rattle.lf_histories.specs.declared.operation.Operation.{Operation}
-use Rattle.lf_histories.specs.declared.operation.Operation.TheVariants.{Retire}
-use Rattle.lf_histories.specs.History.{live}
-use Rattle.lf_histories.specs.Legal.{IsLegal}
+use Rattle.def_histories.specs.declared.operation.Operation.{Operation}
+use Rattle.def_histories.specs.declared.operation.Operation.TheVariants.{Retire}
+use Rattle.def_histories.specs.History.{live}
+use Rattle.def_histories.specs.Legal.{IsLegal}
 use Rattle.lf_desk.specs.Accepted.{is_first_frame}
 use Rattle.lf_desk.specs.Seats.{IsExtended}
 

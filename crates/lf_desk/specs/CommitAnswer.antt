@@ -4,12 +4,12 @@ use Rattle.lf_rdf.specs.declared.quad.Patch.{Patch}
 use Rattle.lf_model.specs.declared.desk.Counted.TheVariants.{Commits, Bytes}
 use Rattle.lf_model.specs.declared.desk.CommitErr.{CommitErr}
 use Rattle.lf_model.specs.declared.desk.CommitErr.TheVariants as c
-use Rattle.lf_datasets.specs.Dataset.{after}
-use Rattle.lf_histories.specs.declared.operation.Operation.{Operation}
-use Rattle.lf_histories.specs.declared.operation.Operation.TheVariants.{Commit}
-use Rattle.lf_histories.specs.History.{commits, text_bytes}
-use Rattle.lf_histories.specs.Legal.{most_commits, most_quads, most_text_bytes}
-use Rattle.lf_histories.specs.Replay.{newest_dataset}
+use Rattle.def_datasets.specs.Dataset.{after}
+use Rattle.def_histories.specs.declared.operation.Operation.{Operation}
+use Rattle.def_histories.specs.declared.operation.Operation.TheVariants.{Commit}
+use Rattle.def_histories.specs.History.{commits, text_bytes}
+use Rattle.def_histories.specs.Legal.{most_commits, most_quads, most_text_bytes}
+use Rattle.def_histories.specs.Replay.{newest_dataset}
 use Rattle.lf_desk.specs.Accepted.{is_patch_not_built}
 
 -- how many quads there are before a patch, and how many after it

@@ -5,10 +5,10 @@ use Rattle.lf_base.specs.declared.memory.Memory.{Memory}
 use Rattle.lf_model.specs.declared.desk.Look.{Look}
 use Rattle.lf_model.specs.declared.desk.Look.TheVariants.{Document, Pending, Unknown}
 use Rattle.lf_model.specs.declared.desk.FramedNow.{FramedNow}
-use Rattle.lf_histories.specs.declared.live.Live.{Live}
-use Rattle.lf_histories.specs.declared.operation.Operation.{Operation}
-use Rattle.lf_histories.specs.History.{commits, live}
-use Rattle.lf_histories.specs.Replay.{dataset_at, newest_dataset}
+use Rattle.def_histories.specs.declared.live.Live.{Live}
+use Rattle.def_histories.specs.declared.operation.Operation.{Operation}
+use Rattle.def_histories.specs.History.{commits, live}
+use Rattle.def_histories.specs.Replay.{dataset_at, newest_dataset}
 use Rattle.lf_desk.specs.Document.{document}
 
 -- a version is published that isn't below the needed one

@@ -4,10 +4,10 @@ use Rattle.lf_rdf.specs.Equality.{text_eq, option_eq}
 use Rattle.lf_model.specs.declared.desk.Counted.TheVariants.{Registrations, Bytes}
 use Rattle.lf_model.specs.declared.desk.RegisterErr.{RegisterErr}
 use Rattle.lf_model.specs.declared.desk.RegisterErr.TheVariants as r
-use Rattle.lf_histories.specs.declared.operation.Operation.{Operation}
-use Rattle.lf_histories.specs.declared.operation.Operation.TheVariants.{Register}
-use Rattle.lf_histories.specs.History.{registrations, text_bytes, live_frames, without}
-use Rattle.lf_histories.specs.Legal.{most_frame_bytes, most_frames, most_registrations, most_text_bytes, is_frame_name, live_text}
+use Rattle.def_histories.specs.declared.operation.Operation.{Operation}
+use Rattle.def_histories.specs.declared.operation.Operation.TheVariants.{Register}
+use Rattle.def_histories.specs.History.{registrations, text_bytes, live_frames, without}
+use Rattle.def_histories.specs.Legal.{most_frame_bytes, most_frames, most_registrations, most_text_bytes, is_frame_name, live_text}
 use Rattle.lf_desk.specs.Accepted.{is_not_built}
 
 -- whether the text is live under the name

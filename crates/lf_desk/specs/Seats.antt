@@ -1,8 +1,8 @@
 -- Seats: each operation but a publication tells the number of the seat that made it.
 use Rattle.std.specs.Prelude.{◌≡◌, List, [], ◌++◌, ℕ, nat_eq, Bool, true, false}
 use Rattle.std.specs.List.{filter}
-use Rattle.lf_histories.specs.declared.operation.Operation.{Operation}
-use Rattle.lf_histories.specs.declared.operation.Operation.TheVariants.{Commit, Register, Retire, Publish}
+use Rattle.def_histories.specs.declared.operation.Operation.{Operation}
+use Rattle.def_histories.specs.declared.operation.Operation.TheVariants.{Commit, Register, Retire, Publish}
 
 -- the seat made the entry
 abbrev pub is_of_seat : ℕ → Operation → Bool

@@ -8,9 +8,9 @@ use Rattle.lf_model.specs.declared.desk.CommitErr.TheVariants as c
 use Rattle.lf_model.specs.declared.desk.RegisterErr.TheVariants as r
 use Rattle.lf_first.specs.Reading.{after_byte, iri_front}
 use Rattle.lf_expand.specs.FirstFrame.{after_text, type_at, body_at, frame_at}
-use Rattle.lf_histories.specs.declared.operation.Operation.{Operation}
-use Rattle.lf_histories.specs.declared.operation.Operation.TheVariants.{Commit, Register}
-use Rattle.lf_histories.specs.Legal.{most_commits, most_frame_bytes, most_frames, most_name, most_quads, most_registrations, most_text_bytes}
+use Rattle.def_histories.specs.declared.operation.Operation.{Operation}
+use Rattle.def_histories.specs.declared.operation.Operation.TheVariants.{Commit, Register}
+use Rattle.def_histories.specs.Legal.{most_commits, most_frame_bytes, most_frames, most_name, most_quads, most_registrations, most_text_bytes}
 use Rattle.lf_desk.specs.Accepted.{is_first_frame, most_first_bytes}
 use Rattle.lf_desk.specs.CommitAnswer.{commit_answer}
 use Rattle.lf_desk.specs.RegisterAnswer.{register_answer}

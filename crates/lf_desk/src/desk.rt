@@ -1,6 +1,6 @@
 ghost use Rattle.std.specs.Prelude.{◌≡◌, ◌≤◌, [], ℕ, Bool, List};
-ghost use Rattle.lf_histories.specs.declared.operation.Operation.{Operation};
-ghost use Rattle.lf_histories.specs.History.{commits};
+ghost use Rattle.def_histories.specs.declared.operation.Operation.{Operation};
+ghost use Rattle.def_histories.specs.History.{commits};
 ghost use Rattle.lf_desk.specs.RegisterAnswer.{register_answer, Answers, registered_by};
 ghost use Rattle.lf_desk.specs.CommitAnswer.{commit_answer, CommitAnswers, committed_by};
 ghost use Rattle.lf_desk.specs.Looks.{Looks, Frames};

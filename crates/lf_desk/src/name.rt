@@ -1,6 +1,6 @@
 ghost use Rattle.std.specs.Prelude.{◌≡◌};
 ghost use Rattle.std.specs.List.{list_all};
-ghost use Rattle.lf_histories.specs.Legal.{is_name_byte, is_frame_name};
+ghost use Rattle.def_histories.specs.Legal.{is_name_byte, is_frame_name};
 
 const MOST_NAME: usize = 64;
 
@@ -21,7 +21,7 @@ fn are_name_bytes(name: &[u8]) -> bool
 }
 
 /// Whether a text is the name of a frame: 1 to 64 letters, digits, `_` and `-`.
-#[tactic(auto, unfolding(lf_histories::specs::Legal::most_name))]
+#[tactic(auto, unfolding(def_histories::specs::Legal::most_name))]
 pub fn is_frame_name(name: &[u8]) -> bool
     ensures { result ≡ is_frame_name name.now }
 {

@@ -6,8 +6,8 @@ use Rattle.std.proofs.lemmas.List.{append-nil}
 use Rattle.std.proofs.lemmas.List.Concat.{flat_map_single}
 use Rattle.json.specs.Token.{Token, begin_object, end_object, begin_array, end_array, key, string}
 use Rattle.json.specs.Print.{print}
-use Rattle.lf_printed.specs.JsonText.{json_string, json_member, json_array}
-use Rattle.lf_printed.proofs.Prints.{Prints, Joins, print-is, prints-string, prints-member, joins-all, prints-array, prints-object, prints-no_item, prints-no_member, joins-none}
+use Rattle.def_printed.specs.JsonText.{json_string, json_member, json_array}
+use Rattle.def_printed.proofs.Prints.{Prints, Joins, print-is, prints-string, prints-member, joins-all, prints-array, prints-object, prints-no_item, prints-no_member, joins-none}
 use Rattle.lf_small.specs.declared.fact.Fact.{Fact}
 use Rattle.lf_small.specs.Order.{in_order}
 use Rattle.lf_small.specs.Facts.{fact_cmp}

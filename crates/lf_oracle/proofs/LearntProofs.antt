@@ -1,7 +1,7 @@
 -- What was learnt holds of the dataset itself, and of the dataset after a patch that touches none of the questions.
 use Rattle.std.proofs.Common.{refl, get_or}
-use Rattle.lf_datasets.specs.Dataset.{after}
-use Rattle.lf_datasets.proofs.QuestionProofs.{untouched_by_patch}
+use Rattle.def_datasets.specs.Dataset.{after}
+use Rattle.def_datasets.proofs.QuestionProofs.{untouched_by_patch}
 use Rattle.lf_oracle.specs.Laws.{LearntIsExact, LearntStays}
 
 pub learnt_is_exact : {A : Type 0} → LearntIsExact A

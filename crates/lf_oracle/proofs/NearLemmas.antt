@@ -6,7 +6,7 @@ use Rattle.lf_rdf.specs.declared.quad.Quad.{Quad}
 use Rattle.lf_rdf.specs.declared.term.Term.{Term}
 use Rattle.lf_rdf.specs.declared.question.Question.{Question}
 use Rattle.lf_rdf.specs.declared.question.Question.TheVariants as ask
-use Rattle.lf_datasets.specs.Near.{itself}
+use Rattle.def_datasets.specs.Near.{itself}
 use Rattle.lf_oracle.specs.Asking.{told_with}
 use Rattle.lf_oracle.specs.Nearby.{AsksNear, IsNamed, IsNearOne}
 

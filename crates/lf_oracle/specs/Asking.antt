@@ -7,7 +7,7 @@ use Rattle.lf_rdf.specs.declared.question.Question.{Question}
 use Rattle.lf_rdf.specs.declared.question.Question.TheVariants as ask
 use Rattle.lf_rdf.specs.declared.question.Answer.{Answer}
 use Rattle.lf_rdf.specs.declared.question.Answer.TheVariants.{Flag, Quads, Terms}
-use Rattle.lf_datasets.specs.Questions.{answer}
+use Rattle.def_datasets.specs.Questions.{answer}
 
 -- the default graph or a named one
 abbrev pub is_one_graph : GraphRef → Bool

@@ -4,8 +4,8 @@ use Rattle.std.specs.List.{list_any}
 use Rattle.lf_rdf.specs.declared.quad.Quad.{Quad}
 use Rattle.lf_rdf.specs.declared.quad.Signed.{Signed}
 use Rattle.lf_rdf.specs.declared.question.Question.{Question}
-use Rattle.lf_datasets.specs.Dataset.{is_dataset, after}
-use Rattle.lf_datasets.specs.Questions.{touches}
+use Rattle.def_datasets.specs.Dataset.{is_dataset, after}
+use Rattle.def_datasets.specs.Questions.{touches}
 use Rattle.lf_oracle.specs.Asking.{Learns}
 
 -- what was given is what the dataset itself gives

@@ -7,8 +7,8 @@ use Rattle.lf_rdf.specs.declared.question.GraphRef.{GraphRef}
 use Rattle.lf_rdf.specs.declared.question.GraphRef.TheVariants as graph
 use Rattle.lf_rdf.specs.declared.question.Question.{Question}
 use Rattle.lf_rdf.specs.Equality.{term_eq}
-use Rattle.lf_datasets.specs.Near.{NearQuestion}
-use Rattle.lf_datasets.specs.Questions.{inward, members}
+use Rattle.def_datasets.specs.Near.{NearQuestion}
+use Rattle.def_datasets.specs.Questions.{inward, members}
 use Rattle.lf_oracle.specs.Asking.{told_with}
 
 -- a question is near one of these terms

@@ -7,7 +7,7 @@ use Rattle.lf_rdf.specs.declared.question.GraphRef.{GraphRef}
 use Rattle.lf_model.specs.declared.value.NodeView.{NodeView}
 use Rattle.lf_model.specs.declared.value.Prop.{Prop}
 use Rattle.lf_model.specs.ValueBridge.{value_data}
-use Rattle.lf_datasets.specs.Views.{View, ViewProperty, pointing}
+use Rattle.def_datasets.specs.Views.{View, ViewProperty, pointing}
 
 -- a property and the data of its values
 abbrev pub property_data : Prop → ViewProperty

@@ -1,6 +1,6 @@
 ghost use Rattle.std.specs.Prelude.{◌≡◌, ◌+◌, [], ◌∷◌, IfOk, IsTrue, OnOk};
 ghost use Rattle.lf_rdf.specs.declared.question.Answer.TheVariants.{Flag, Quads, Terms};
-ghost use Rattle.lf_datasets.specs.Questions.{answer};
+ghost use Rattle.def_datasets.specs.Questions.{answer};
 ghost use Rattle.lf_oracle.specs.Asking.{asks_one_graph, asks_flag, flag_in, told_with};
 
 use crate::oracle::Oracle;

@@ -1,5 +1,5 @@
 ghost use Rattle.std.specs.Prelude.{◌≡◌, IfOk};
-ghost use Rattle.lf_datasets.specs.Questions.{named};
+ghost use Rattle.def_datasets.specs.Questions.{named};
 ghost use Rattle.lf_oracle.specs.Asking.{Learns};
 ghost use Rattle.lf_oracle.specs.Nearby.{AsksNear, IsNamed};
 

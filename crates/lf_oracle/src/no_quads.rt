@@ -1,5 +1,5 @@
 ghost use Rattle.std.specs.Prelude.{◌≡◌, []};
-ghost use Rattle.lf_datasets.specs.Questions.{answer};
+ghost use Rattle.def_datasets.specs.Questions.{answer};
 
 use crate::oracle::Oracle;
 use lf_base::{Memory, Steps, TryCopy};

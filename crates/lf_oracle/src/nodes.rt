@@ -1,8 +1,8 @@
 ghost use Rattle.std.specs.Prelude.{◌≡◌, ℕ, List, [], ◌∷◌, Option, IfOk, option_map};
 ghost use Rattle.lf_rdf.specs.declared.quad.Quad.{Quad};
 ghost use Rattle.lf_rdf.specs.declared.question.Question.{Question};
-ghost use Rattle.lf_datasets.specs.Questions.{named};
-ghost use Rattle.lf_datasets.specs.Views.{keys, view_of};
+ghost use Rattle.def_datasets.specs.Questions.{named};
+ghost use Rattle.def_datasets.specs.Views.{keys, view_of};
 ghost use Rattle.lf_oracle.specs.Asking.{Learns};
 ghost use Rattle.lf_oracle.specs.Nearby.{AsksNear, AsksNearMembers, IsNamed, IsOfNode, IsPointing};
 ghost use Rattle.lf_oracle.specs.NodeViews.{pointing_at, view_data};

@@ -1,7 +1,7 @@
 ghost use Rattle.std.specs.Prelude.{◌≡◌, ◌+◌, ℕ, List, [], ◌∷◌, Option, IfOk, IsTrue, OnOk};
 ghost use Rattle.lf_rdf.specs.declared.quad.Quad.{Quad};
 ghost use Rattle.lf_rdf.specs.declared.question.Question.{Question};
-ghost use Rattle.lf_datasets.specs.Questions.{answer};
+ghost use Rattle.def_datasets.specs.Questions.{answer};
 ghost use Rattle.lf_oracle.specs.Asking.{asks_one_graph, told_with};
 
 use lf_base::{Memory, Steps};

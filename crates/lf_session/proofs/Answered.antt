@@ -6,7 +6,7 @@ use Rattle.lf_rdf.specs.declared.quad.Quad.{Quad}
 use Rattle.lf_first.specs.First.{IsFirstText}
 use Rattle.lf_model.specs.declared.desk.RegisterErr.{RegisterErr}
 use Rattle.lf_model.specs.declared.desk.RegisterErr.TheVariants as r
-use Rattle.lf_histories.specs.declared.operation.Operation.{Operation}
+use Rattle.def_histories.specs.declared.operation.Operation.{Operation}
 use Rattle.lf_desk.specs.RegisterAnswer.{register_answer, Answers, registered_by}
 use Rattle.lf_session.specs.declared.request.Refusal.{Refusal}
 use Rattle.lf_session.specs.declared.request.Asked.{Asked}

@@ -2,7 +2,7 @@
 use Rattle.std.proofs.Common.{◌≡◌, refl, sym, ◌∙◌, ap, arith, ◌<◌, List, [], ◌∷◌, ◌++◌, ℕ, nat_eq, nat_lt, nat_le, true, false, ◌||◌, ◌&&◌, Option, IsTrue, append_assoc, codes, decimal, length}
 use Rattle.std.specs.List.{list_all, flat_map}
 use Rattle.std.proofs.lemmas.Bool.{and_parts, false≢true, not-true, or_parts, or_from, false_from_ne_true, not_from_false, lt-leb, ltb-true, ltb-false, eqb-true, ne_eqb}
-use Rattle.lf_printed.specs.JsonText.{json_byte, json_string, json_member, json_object}
+use Rattle.def_printed.specs.JsonText.{json_byte, json_string, json_member, json_object}
 use Rattle.lf_model.specs.ErrorName.{name_of}
 use Rattle.lf_model.specs.declared.desk.Counted.{Counted}
 use Rattle.lf_model.specs.declared.desk.Counted.TheVariants as counted
@@ -10,7 +10,7 @@ use Rattle.lf_model.specs.declared.document.Limit.{Limit}
 use Rattle.lf_model.specs.declared.document.Limit.TheVariants as limits
 use Rattle.lf_model.specs.declared.error.LdError.{LdError}
 use Rattle.lf_model.specs.declared.error.LdError.TheVariants.{CollidingKeywords, CyclicIriMapping, InvalidEmbedValue, InvalidIdValue, InvalidReverseValue, InvalidVersionValue, InvalidContainerMapping, InvalidDefaultLanguage, InvalidFrame, InvalidIriMapping, InvalidKeywordAlias, InvalidLanguageMapping, InvalidLocalContext, InvalidPrefixValue, InvalidReverseProperty, InvalidTermDefinition, InvalidTypeMapping, InvalidTypeValue, InvalidValueObject, InvalidVocabMapping, KeywordRedefinition, LoadingRemoteContextFailed, IriConfusedWithPrefix}
-use Rattle.lf_histories.specs.Legal.{is_frame_name, is_name_byte, most_name}
+use Rattle.def_histories.specs.Legal.{is_frame_name, is_name_byte, most_name}
 use Rattle.lf_session.specs.Bodies.{error_body, frame_body, version_body, number_or_null, pending_body, frame_too_long_body, too_many_body, counted_name, history_full_body, fractional_body, limit_name, limit_number, limit_body}
 use Rattle.lf_session.specs.BodyLaws.{is_unescaped, text_member, number_member, BodiesAreJson}
 

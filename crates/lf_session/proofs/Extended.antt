@@ -2,9 +2,9 @@
 use Rattle.std.proofs.Common.{◌≡◌, ◌≤◌, ◌+◌, ℕ, Bool, List, [], ◌++◌, refl, ap, sym, ◌∙◌, subst, append_assoc, arith}
 use Rattle.std.proofs.lemmas.List.{append-nil}
 use Rattle.std.proofs.lemmas.List.Elements.{filter-append}
-use Rattle.lf_histories.specs.declared.operation.Operation.{Operation}
-use Rattle.lf_histories.specs.History.{commits}
-use Rattle.lf_histories.proofs.Appended.{commits-append}
+use Rattle.def_histories.specs.declared.operation.Operation.{Operation}
+use Rattle.def_histories.specs.History.{commits}
+use Rattle.def_histories.proofs.Appended.{commits-append}
 use Rattle.lf_desk.specs.Calls.{IsCall}
 use Rattle.lf_desk.specs.Seats.{IsExtended, own, is_of_seat}
 

@@ -14,14 +14,14 @@ use Rattle.lf_rdf.specs.Vocabulary.{rdf_type, xsd_string}
 use Rattle.lf_first.specs.First.{IsFirstText, quads_of}
 use Rattle.lf_rdf.specs.declared.quad.Quad.{Quad}
 use Rattle.lf_model.specs.declared.desk.Look.TheVariants as looked
-use Rattle.lf_histories.specs.History.{registered}
+use Rattle.def_histories.specs.History.{registered}
 use Rattle.lf_first.specs.Reading.{after_byte}
 use Rattle.lf_expand.specs.FirstFrame.{frame_at, body_at}
 use Rattle.lf_small.specs.Small.{small}
-use Rattle.lf_histories.specs.declared.operation.Operation.{Operation}
-use Rattle.lf_histories.specs.declared.operation.Operation.TheVariants as entry
-use Rattle.lf_histories.specs.Legal.{IsLegal, IsCommit, IsRegistration, most_quads, most_commits, most_registrations, most_text_bytes, most_frame_bytes, most_frames, most_name}
-use Rattle.lf_histories.proofs.LegalProofs.{allowed_is_legal}
+use Rattle.def_histories.specs.declared.operation.Operation.{Operation}
+use Rattle.def_histories.specs.declared.operation.Operation.TheVariants as entry
+use Rattle.def_histories.specs.Legal.{IsLegal, IsCommit, IsRegistration, most_quads, most_commits, most_registrations, most_text_bytes, most_frame_bytes, most_frames, most_name}
+use Rattle.def_histories.proofs.LegalProofs.{allowed_is_legal}
 use Rattle.lf_http.specs.Judge.{method_of, target_of}
 use Rattle.lf_desk.specs.Accepted.{is_first_frame, most_first_bytes}
 use Rattle.lf_desk.specs.Seats.{IsExtended}

@@ -7,7 +7,7 @@ use Rattle.lf_base.specs.declared.memory.Memory.{Memory}
 use Rattle.lf_rdf.specs.declared.quad.Patch.{Patch}
 use Rattle.lf_model.specs.declared.desk.CommitErr.{CommitErr}
 use Rattle.lf_model.specs.declared.desk.RegisterErr.{RegisterErr}
-use Rattle.lf_histories.specs.declared.operation.Operation.{Operation}
+use Rattle.def_histories.specs.declared.operation.Operation.{Operation}
 use Rattle.lf_desk.specs.CommitAnswer.{committed_by}
 use Rattle.lf_desk.specs.RegisterAnswer.{registered_by}
 use Rattle.lf_desk.specs.Calls.{retired_by}

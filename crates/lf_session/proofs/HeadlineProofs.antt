@@ -1,8 +1,8 @@
 -- Sessions hold, exchange by exchange.
 use Rattle.std.proofs.Common.{◌≡◌, sym, subst, List, [], ◌∷◌, ◌++◌, ℕ, Bool, Option}
-use Rattle.lf_histories.specs.declared.operation.Operation.{Operation}
-use Rattle.lf_histories.specs.Legal.{IsLegal}
-use Rattle.lf_histories.proofs.LegalProofs.{prefix_is_legal}
+use Rattle.def_histories.specs.declared.operation.Operation.{Operation}
+use Rattle.def_histories.specs.Legal.{IsLegal}
+use Rattle.def_histories.proofs.LegalProofs.{prefix_is_legal}
 use Rattle.lf_http.specs.Reading.{name_of}
 use Rattle.lf_desk.specs.Accepted.{is_first_frame}
 use Rattle.lf_session.specs.Requests.{asked_by}

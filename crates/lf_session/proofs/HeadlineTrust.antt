@@ -7,11 +7,11 @@ use Rattle.lf_model.specs.declared.desk.Look.{Look}
 use Rattle.lf_model.specs.declared.desk.Look.TheVariants as looked
 use Rattle.lf_model.specs.declared.desk.FramedNow.{FramedNow}
 use Rattle.lf_model.specs.declared.document.Doc.{Doc}
-use Rattle.lf_histories.specs.declared.operation.Operation.{Operation}
-use Rattle.lf_histories.specs.History.{commits}
-use Rattle.lf_histories.specs.Legal.{IsLegal}
-use Rattle.lf_histories.specs.Replay.{dataset_at}
-use Rattle.lf_histories.proofs.StandingProofs.{published_was_committed}
+use Rattle.def_histories.specs.declared.operation.Operation.{Operation}
+use Rattle.def_histories.specs.History.{commits}
+use Rattle.def_histories.specs.Legal.{IsLegal}
+use Rattle.def_histories.specs.Replay.{dataset_at}
+use Rattle.def_histories.proofs.StandingProofs.{published_was_committed}
 use Rattle.lf_desk.specs.Accepted.{is_first_frame}
 use Rattle.lf_desk.specs.Document.{document}
 use Rattle.lf_desk.specs.Looks.{Looks, Frames, is_new_enough}

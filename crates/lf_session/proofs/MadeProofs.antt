@@ -6,7 +6,7 @@ use Rattle.lf_model.specs.declared.desk.CommitErr.{CommitErr}
 use Rattle.lf_model.specs.declared.desk.CommitErr.TheVariants as c
 use Rattle.lf_model.specs.declared.desk.RegisterErr.{RegisterErr}
 use Rattle.lf_model.specs.declared.desk.RegisterErr.TheVariants as r
-use Rattle.lf_histories.specs.declared.operation.Operation.{Operation}
+use Rattle.def_histories.specs.declared.operation.Operation.{Operation}
 use Rattle.lf_desk.specs.CommitAnswer.{committed_by}
 use Rattle.lf_desk.specs.RegisterAnswer.{registered_by}
 use Rattle.lf_desk.specs.Calls.{retired_by}

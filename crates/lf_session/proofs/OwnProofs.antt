@@ -1,7 +1,7 @@
 -- What a seat's requests made are its own operations in the history after them, in order, each once.
 use Rattle.std.proofs.Common.{◌≡◌, sym, ◌∙◌, ap, List, [], ◌∷◌, ◌++◌, ℕ, Bool, Option}
 use Rattle.std.proofs.lemmas.List.{append-nil, append_assoc}
-use Rattle.lf_histories.specs.declared.operation.Operation.{Operation}
+use Rattle.def_histories.specs.declared.operation.Operation.{Operation}
 use Rattle.lf_http.specs.Reading.{name_of}
 use Rattle.lf_desk.specs.Seats.{own}
 use Rattle.lf_session.specs.declared.ended.Ended.{Ended}

@@ -3,8 +3,8 @@ use Rattle.std.proofs.Common.{◌≡◌, ℕ, List, [], ◌∷◌}
 use Rattle.std.specs.Prelude.{codes}
 use Rattle.json.specs.Token.{key, string}
 use Rattle.json.specs.Print.{print}
-use Rattle.lf_printed.specs.JsonText.{json_string, json_member}
-use Rattle.lf_printed.proofs.Prints.{Prints, Joins, print-is, prints-string, prints-member, prints-object, joins-all}
+use Rattle.def_printed.specs.JsonText.{json_string, json_member}
+use Rattle.def_printed.proofs.Prints.{Prints, Joins, print-is, prints-string, prints-member, prints-object, joins-all}
 use Rattle.lf_session.specs.Bodies.{fractional_body}
 use Rattle.lf_session.specs.Tokens.{fractional_tokens}
 

@@ -4,8 +4,8 @@ use Rattle.std.specs.Prelude.{Result, Ok, Option}
 use Rattle.lf_base.specs.declared.memory.Memory.{Memory}
 use Rattle.lf_model.specs.declared.desk.FramedNow.{FramedNow}
 use Rattle.lf_model.specs.declared.desk.Look.TheVariants.{Pending}
-use Rattle.lf_histories.specs.declared.operation.Operation.{Operation}
-use Rattle.lf_histories.specs.History.{commits}
+use Rattle.def_histories.specs.declared.operation.Operation.{Operation}
+use Rattle.def_histories.specs.History.{commits}
 use Rattle.lf_desk.specs.Looks.{Frames}
 use Rattle.lf_desk.specs.Calls.{IsCall}
 use Rattle.lf_desk.specs.Seats.{IsExtended}

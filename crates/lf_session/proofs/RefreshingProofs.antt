@@ -7,10 +7,10 @@ use Rattle.lf_model.specs.declared.desk.Look.TheVariants as looked
 use Rattle.lf_model.specs.declared.desk.FramedNow.{FramedNow}
 use Rattle.lf_model.specs.declared.document.Doc.{Doc}
 use Rattle.lf_model.specs.declared.document.Doc.TheVariants as doc
-use Rattle.lf_histories.specs.declared.operation.Operation.{Operation}
-use Rattle.lf_histories.specs.History.{commits, live}
-use Rattle.lf_histories.specs.Legal.{IsLegal}
-use Rattle.lf_histories.proofs.LegalProofs.{prefix_is_legal}
+use Rattle.def_histories.specs.declared.operation.Operation.{Operation}
+use Rattle.def_histories.specs.History.{commits, live}
+use Rattle.def_histories.specs.Legal.{IsLegal}
+use Rattle.def_histories.proofs.LegalProofs.{prefix_is_legal}
 use Rattle.lf_http.specs.Reading.{name_of}
 use Rattle.lf_desk.specs.Accepted.{is_first_frame}
 use Rattle.lf_desk.specs.Looks.{Looks, Frames}

@@ -2,8 +2,8 @@
 use Rattle.std.proofs.Common.{◌≡◌, ◌≤◌, ℕ, Bool, true, false, cond, not, List, refl, length, arith}
 use Rattle.std.specs.Prelude.{nat_lt, Ok, Err}
 use Rattle.lf_model.specs.declared.desk.RegisterErr.TheVariants as r
-use Rattle.lf_histories.specs.declared.operation.Operation.{Operation}
-use Rattle.lf_histories.specs.Legal.{is_frame_name, most_name, most_frame_bytes}
+use Rattle.def_histories.specs.declared.operation.Operation.{Operation}
+use Rattle.def_histories.specs.Legal.{is_frame_name, most_name, most_frame_bytes}
 use Rattle.lf_desk.specs.Accepted.{is_not_built}
 use Rattle.lf_desk.specs.RegisterAnswer.{register_answer, is_live_text, limits_answer}
 

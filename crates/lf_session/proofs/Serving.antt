@@ -9,10 +9,10 @@ use Rattle.lf_http.specs.declared.head.HeadErr.{HeadErr}
 use Rattle.lf_http.specs.declared.head.HeadErr.TheVariants as h
 use Rattle.lf_http.specs.Judge.{request_of, judged, is_bad, needs_length, head_of}
 use Rattle.lf_http.specs.Reading.{LacksHead, IsRefused, longest_head, most_lines, name_of}
-use Rattle.lf_histories.specs.declared.operation.Operation.{Operation}
+use Rattle.def_histories.specs.declared.operation.Operation.{Operation}
 use Rattle.lf_session.specs.declared.ended.Ended.{Ended}
 use Rattle.lf_session.specs.declared.ended.Ended.TheVariants as ended
-use Rattle.lf_histories.specs.Legal.{IsLegal}
+use Rattle.def_histories.specs.Legal.{IsLegal}
 use Rattle.lf_desk.specs.Accepted.{is_first_frame}
 use Rattle.lf_session.specs.Replies.{Reply, reply_bytes}
 use Rattle.lf_session.specs.Answers.{IsAnswered}

@@ -2,7 +2,7 @@
 use Rattle.std.proofs.Common.{◌≡◌, ◌∙◌, refl, sym, ap, subst, inr, List, [], ◌∷◌, ◌++◌, ℕ, Bool, false, Option, append_assoc, append-nil}
 use Rattle.lf_io.specs.Bytes.{prepended, appended}
 use Rattle.lf_io.proofs.Told.{prepended_twice, prepended_nothing, appended_nothing, appended_twice}
-use Rattle.lf_histories.specs.declared.operation.Operation.{Operation}
+use Rattle.def_histories.specs.declared.operation.Operation.{Operation}
 use Rattle.lf_session.specs.declared.ended.Ended.{Ended}
 use Rattle.lf_session.specs.declared.ended.Ended.TheVariants as ended
 use Rattle.lf_session.specs.Exchanges.{Exchange, IsExchange, IsChain, message_of, answer_of, history_of, messages, answers, last_history, last_need, need_of}

@@ -11,9 +11,9 @@ use Rattle.lf_model.specs.declared.desk.Look.{Look}
 use Rattle.lf_model.specs.declared.desk.Look.TheVariants as looked
 use Rattle.lf_model.specs.declared.desk.FramedNow.{FramedNow}
 use Rattle.lf_first.specs.First.{IsFirstText, quads_of}
-use Rattle.lf_histories.specs.declared.operation.Operation.{Operation}
-use Rattle.lf_histories.specs.History.{commits}
-use Rattle.lf_histories.specs.Legal.{is_frame_name, most_frame_bytes}
+use Rattle.def_histories.specs.declared.operation.Operation.{Operation}
+use Rattle.def_histories.specs.History.{commits}
+use Rattle.def_histories.specs.Legal.{is_frame_name, most_frame_bytes}
 use Rattle.lf_desk.specs.RegisterAnswer.{register_answer, Answers, registered_by}
 use Rattle.lf_desk.specs.CommitAnswer.{commit_answer, CommitAnswers, committed_by}
 use Rattle.lf_desk.specs.Looks.{Looks, Frames}

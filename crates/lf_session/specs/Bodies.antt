@@ -1,6 +1,6 @@
 -- The bodies of replies other than documents: JSON texts in compact form (RFC 8259).
 use Rattle.std.specs.Prelude.{List, ℕ, ◌++◌, Option, Some, None, codes, decimal}
-use Rattle.lf_printed.specs.JsonText.{json_string}
+use Rattle.def_printed.specs.JsonText.{json_string}
 use Rattle.lf_model.specs.declared.desk.Counted.{Counted}
 use Rattle.lf_model.specs.declared.desk.Counted.TheVariants as counted
 use Rattle.lf_model.specs.declared.document.Limit.{Limit}

@@ -1,12 +1,12 @@
 -- Each body is the JSON text of a map, its members in order of their names (RFC 8259, section 4).
 use Rattle.std.specs.Prelude.{◌≡◌, List, [], ◌∷◌, ℕ, nat_eq, nat_lt, Bool, ◌||◌, not, Option, IsTrue, codes, decimal}
 use Rattle.std.specs.List.{list_all}
-use Rattle.lf_printed.specs.JsonText.{json_string, json_member, json_object}
+use Rattle.def_printed.specs.JsonText.{json_string, json_member, json_object}
 use Rattle.lf_model.specs.ErrorName.{name_of}
 use Rattle.lf_model.specs.declared.desk.Counted.{Counted}
 use Rattle.lf_model.specs.declared.document.Limit.{Limit}
 use Rattle.lf_model.specs.declared.error.LdError.{LdError}
-use Rattle.lf_histories.specs.Legal.{is_frame_name}
+use Rattle.def_histories.specs.Legal.{is_frame_name}
 use Rattle.lf_session.specs.Bodies.{error_body, frame_body, version_body, number_or_null, pending_body, frame_too_long_body, too_many_body, counted_name, history_full_body, fractional_body, limit_name, limit_number, limit_body}
 
 -- a byte that stands in a JSON string as it is

@@ -4,8 +4,8 @@ use Rattle.httparse.specs.Grammar.{RequestHead, IsRequestHead, print_request}
 use Rattle.lf_http.specs.declared.head.Head.{Head}
 use Rattle.lf_http.specs.Judge.{request_of, judged}
 use Rattle.lf_http.specs.Reading.{longest_head, most_lines, name_of}
-use Rattle.lf_histories.specs.declared.operation.Operation.{Operation}
-use Rattle.lf_histories.specs.Legal.{IsLegal}
+use Rattle.def_histories.specs.declared.operation.Operation.{Operation}
+use Rattle.def_histories.specs.Legal.{IsLegal}
 use Rattle.lf_desk.specs.Accepted.{is_first_frame}
 use Rattle.lf_desk.specs.Seats.{IsExtended}
 use Rattle.lf_session.specs.Replies.{Reply, reply_bytes}

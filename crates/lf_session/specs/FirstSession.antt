@@ -12,9 +12,9 @@ use Rattle.lf_http.specs.declared.head.Method.{Method}
 use Rattle.lf_http.specs.declared.head.Method.TheVariants as method
 use Rattle.lf_http.specs.declared.head.Target.{Target}
 use Rattle.lf_http.specs.declared.head.Target.TheVariants as target
-use Rattle.lf_histories.specs.declared.operation.Operation.{Operation}
-use Rattle.lf_histories.specs.declared.operation.Operation.TheVariants as entry
-use Rattle.lf_histories.specs.Replay.{newest_dataset}
+use Rattle.def_histories.specs.declared.operation.Operation.{Operation}
+use Rattle.def_histories.specs.declared.operation.Operation.TheVariants as entry
+use Rattle.def_histories.specs.Replay.{newest_dataset}
 use Rattle.lf_desk.specs.Document.{document}
 use Rattle.lf_session.specs.declared.ended.Ended.TheVariants as ended
 use Rattle.lf_session.specs.Replies.{commit_reply, register_reply, look_reply, framed_reply}

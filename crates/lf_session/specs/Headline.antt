@@ -1,10 +1,10 @@
 -- What a caller can trust of each reply.
 use Rattle.std.specs.Prelude.{◌≡◌, ◌≤◌, List, [], ◌∷◌, ◌++◌, ℕ, Bool, true, false, is_some, Option, Some}
-use Rattle.lf_histories.specs.declared.live.Live.{Live}
-use Rattle.lf_histories.specs.declared.operation.Operation.{Operation}
-use Rattle.lf_histories.specs.History.{commits, live}
-use Rattle.lf_histories.specs.Legal.{IsLegal}
-use Rattle.lf_histories.specs.Replay.{dataset_at}
+use Rattle.def_histories.specs.declared.live.Live.{Live}
+use Rattle.def_histories.specs.declared.operation.Operation.{Operation}
+use Rattle.def_histories.specs.History.{commits, live}
+use Rattle.def_histories.specs.Legal.{IsLegal}
+use Rattle.def_histories.specs.Replay.{dataset_at}
 use Rattle.lf_http.specs.Reading.{name_of}
 use Rattle.lf_desk.specs.Accepted.{is_first_frame}
 use Rattle.lf_desk.specs.Seats.{own}

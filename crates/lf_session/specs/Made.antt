@@ -1,6 +1,6 @@
 -- A reply tells whether its request made an operation.
 use Rattle.std.specs.Prelude.{◌≡◌, List, ℕ, nat_eq, length, Bool, false, if◌then◌else◌}
-use Rattle.lf_histories.specs.declared.operation.Operation.{Operation}
+use Rattle.def_histories.specs.declared.operation.Operation.{Operation}
 use Rattle.lf_session.specs.declared.request.Asked.{Asked}
 use Rattle.lf_session.specs.declared.request.Asked.TheVariants as asked
 use Rattle.lf_session.specs.Requests.{asked_by}

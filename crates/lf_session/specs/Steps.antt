@@ -1,7 +1,7 @@
 -- What the desk does for one request.
 use Rattle.std.specs.Prelude.{◌≡◌, List, ◌++◌, ℕ, Bool}
-use Rattle.lf_histories.specs.declared.operation.Operation.{Operation}
-use Rattle.lf_histories.specs.Legal.{IsLegal}
+use Rattle.def_histories.specs.declared.operation.Operation.{Operation}
+use Rattle.def_histories.specs.Legal.{IsLegal}
 use Rattle.lf_desk.specs.Accepted.{is_first_frame}
 use Rattle.lf_desk.specs.Seats.{IsExtended}
 use Rattle.lf_session.specs.declared.request.Asked.{Asked}

@@ -5,7 +5,7 @@ use Rattle.lf_io.specs.Bytes.{prepended}
 use Rattle.lf_http.specs.declared.head.HeadErr.{HeadErr}
 use Rattle.lf_http.specs.Judge.{request_of, judged}
 use Rattle.lf_http.specs.Reading.{longest_head, most_lines}
-use Rattle.lf_histories.specs.declared.operation.Operation.{Operation}
+use Rattle.def_histories.specs.declared.operation.Operation.{Operation}
 use Rattle.lf_session.specs.declared.ended.Ended.{Ended}
 use Rattle.lf_session.specs.declared.ended.Ended.TheVariants as ended
 use Rattle.lf_session.specs.Replies.{Reply, refusal}

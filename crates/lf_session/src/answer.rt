@@ -1,7 +1,7 @@
 ghost use Rattle.std.specs.Prelude.{◌≡◌, [], List, ℕ, Bool, IsTrue, IsUtf8, Ok};
 ghost use Rattle.lf_http.specs.Reply.{is_named};
 ghost use Rattle.lf_model.specs.declared.desk.Look.TheVariants.{Pending};
-ghost use Rattle.lf_histories.specs.declared.operation.Operation.{Operation};
+ghost use Rattle.def_histories.specs.declared.operation.Operation.{Operation};
 ghost use Rattle.lf_desk.specs.Calls.{IsCall};
 ghost use Rattle.lf_session.specs.Bodies.{frame_body};
 ghost use Rattle.lf_session.specs.Answers.{IsPatch, Refreshes};

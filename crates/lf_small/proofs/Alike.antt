@@ -11,7 +11,7 @@ use Rattle.std.proofs.lemmas.Cmp.{nat_list_cmp_total, on_total, then_total}
 use Rattle.std.proofs.lemmas.List.Folds.{Any-from_list_any, list_any-from_Any}
 use Rattle.std.proofs.lemmas.Map.Text.{is_eq-slice_cmp}
 use Rattle.std.proofs.lemmas.Slice.Eq.{bytes_eq-Decides}
-use Rattle.lf_printed.specs.JsonText.{json_string, json_member, json_object}
+use Rattle.def_printed.specs.JsonText.{json_string, json_member, json_object}
 use Rattle.lf_small.specs.declared.fact.Fact.{Fact}
 use Rattle.lf_small.specs.Facts.{text_cmp, fact_cmp}
 use Rattle.lf_small.specs.Small.{about, under, properties, is_wanted, matched, key_of, one_or_array, property_text, node_text, document, document_of}

@@ -6,7 +6,7 @@ use Rattle.std.specs.Option.{option_cmp}
 use Rattle.std.specs.List.{list_any}
 use Rattle.lf_rdf.specs.declared.quad.Quad.{Quad}
 use Rattle.lf_rdf.specs.Equality.{text_eq, option_eq}
-use Rattle.lf_printed.specs.JsonText.{json_string, json_member, json_array, json_object}
+use Rattle.def_printed.specs.JsonText.{json_string, json_member, json_array, json_object}
 use Rattle.lf_small.specs.declared.fact.Fact.{Fact}
 use Rattle.lf_small.specs.Order.{in_order}
 use Rattle.lf_small.specs.Facts.{text_cmp, fact_of, fact_cmp}

@@ -1,7 +1,7 @@
 use Rattle.std.proofs.Common.{◌∙◌, ◌+◌, length}
-use Rattle.lf_datasets.proofs.VersionProofs.{versions_are_datasets}
-use Rattle.lf_histories.specs.History.{patches, commits}
-use Rattle.lf_histories.specs.Replay.{newest_dataset}
+use Rattle.def_datasets.proofs.VersionProofs.{versions_are_datasets}
+use Rattle.def_histories.specs.History.{patches, commits}
+use Rattle.def_histories.specs.Replay.{newest_dataset}
 use Rattle.lf_core.proofs.UnorderedProofs.{count_after}
 use Rattle.lf_core.proofs.check_patch.quads_after.Goals as goal
 

@@ -4,8 +4,8 @@ use Rattle.std.specs.Cmp.Lexicographic.{bytes_decides}
 use Rattle.std.proofs.lemmas.List.Quantifiers.{position-Some}
 use Rattle.std.proofs.lemmas.List.Edits.{length-remove}
 use Rattle.lf_rdf.specs.Equality.{text_eq}
-use Rattle.lf_histories.specs.declared.live.Live.{Live}
-use Rattle.lf_histories.specs.History.{without}
+use Rattle.def_histories.specs.declared.live.Live.{Live}
+use Rattle.def_histories.specs.History.{without}
 use Rattle.lf_core.proofs.Named.{none_left_out, no_place, found_at, left_same}
 use Rattle.lf_core.proofs.frames.take_name.Goals as goal
 

@@ -1,5 +1,5 @@
 use Rattle.std.proofs.Common.{◌≡◌, [], drop}
-use Rattle.lf_histories.specs.Replay.{newest_dataset}
+use Rattle.def_histories.specs.Replay.{newest_dataset}
 use Rattle.lf_core.specs.Unordered.{stays, found_new}
 use Rattle.lf_core.proofs.patches.entering.Given as goal
 

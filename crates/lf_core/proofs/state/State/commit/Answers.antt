@@ -1,7 +1,7 @@
 use Rattle.std.proofs.Common.{sym, ◌∙◌, ap, ℕ, Result, Ok}
 use Rattle.lf_model.specs.declared.desk.CommitErr.{CommitErr}
-use Rattle.lf_histories.specs.History.{commits}
-use Rattle.lf_histories.proofs.LiveProofs.{commit_makes_version}
+use Rattle.def_histories.specs.History.{commits}
+use Rattle.def_histories.proofs.LiveProofs.{commit_makes_version}
 use Rattle.lf_core.proofs.state.State.commit.Goals as goal
 
 pub returns-clause-answer : goal.returns-clause-answer

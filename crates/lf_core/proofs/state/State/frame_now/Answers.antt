@@ -1,7 +1,7 @@
 use Rattle.std.proofs.Common.{rules, ◌∙◌, ap, ℕ, List}
 use Rattle.lf_model.specs.declared.document.Doc.TheVariants.{Bytes}
-use Rattle.lf_histories.specs.declared.operation.Operation.{Operation}
-use Rattle.lf_histories.specs.Replay.{newest_dataset}
+use Rattle.def_histories.specs.declared.operation.Operation.{Operation}
+use Rattle.def_histories.specs.Replay.{newest_dataset}
 use Rattle.lf_desk.specs.Document.{wanted, document}
 use Rattle.lf_core.proofs.SmallOf.{small_unordered}
 use Rattle.lf_core.proofs.state.State.frame_now.Goals as goal

@@ -1,5 +1,5 @@
 use Rattle.std.proofs.Common.{rules, ◌≡◌, refl, Some}
-use Rattle.lf_histories.specs.History.{find_frame}
+use Rattle.def_histories.specs.History.{find_frame}
 use Rattle.lf_core.proofs.Named.{not_new}
 use Rattle.lf_core.proofs.state.State.look.Goals as goal
 

@@ -1,6 +1,6 @@
 use Rattle.std.proofs.Common.{rules, ◌∙◌, ap, ◌+◌, List, length, arith}
-use Rattle.lf_histories.specs.declared.operation.Operation.{Operation}
-use Rattle.lf_histories.specs.History.{registrations, text_bytes}
+use Rattle.def_histories.specs.declared.operation.Operation.{Operation}
+use Rattle.def_histories.specs.History.{registrations, text_bytes}
 use Rattle.lf_desk.specs.RegisterAnswer.{register_answer}
 use Rattle.lf_desk.proofs.FrameAnswers.{accepted, few_texts}
 use Rattle.lf_core.proofs.Few.{few_registrations, few_bytes}

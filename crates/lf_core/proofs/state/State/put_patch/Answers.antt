@@ -1,6 +1,6 @@
 use Rattle.std.proofs.Common.{rules, ◌∙◌, ap, suc, ◌+◌, List, arith}
-use Rattle.lf_histories.specs.declared.operation.Operation.{Operation}
-use Rattle.lf_histories.specs.History.{commits, text_bytes}
+use Rattle.def_histories.specs.declared.operation.Operation.{Operation}
+use Rattle.def_histories.specs.History.{commits, text_bytes}
 use Rattle.lf_desk.specs.CommitAnswer.{commit_answer}
 use Rattle.lf_desk.proofs.PatchAnswers.{accepted, few_texts}
 use Rattle.lf_core.proofs.Few.{few_bytes, few_commits}

@@ -1,0 +1,27 @@
+-- Documents computed from scratch.
+use Rattle.std.proofs.Common.{◌≡◌, ap, ap₂}
+use Rattle.def_framing.specs.Views.{Views, of_dataset}
+use Rattle.def_framing.specs.Outcome.{outcome_in, framed_graph}
+use Rattle.def_documents.specs.Document.{scratch}
+use Rattle.def_scratch.specs.Scratch.{scratch_by}
+use Rattle.def_scratch.specs.Laws.{FrameErrorsDecide, SameViewsSameDocument}
+
+pub errors_decide : FrameErrorsDecide
+errors_decide frame error dataset e = ap (λ read. scratch_by read dataset) e
+
+pub same_document : SameViewsSameDocument
+same_document meaning one two ids view keys pointing names =
+    ap₂
+    (λ (views : Views) held.
+    scratch meaning.table meaning.context
+    (outcome_in views meaning.nested (framed_graph meaning.top_graph)) held)
+    joined ids
+  where
+    joined : of_dataset one ≡ of_dataset two
+    joined =
+        λ i. record {
+          view = λ graph id. view graph id i;
+          keys = λ graph. keys graph i;
+          pointing = λ graph property id. pointing graph property id i;
+          names_graph = λ name. names name i;
+        }

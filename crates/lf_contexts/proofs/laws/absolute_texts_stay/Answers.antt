@@ -1,5 +1,0 @@
-use Rattle.lf_contexts.proofs.Expanding.{absolute_stay}
-use Rattle.lf_contexts.proofs.laws.absolute_texts_stay.Goals as goal
-
-pub returns : goal.returns
-returns c = absolute_stay

@@ -1,5 +1,0 @@
-use Rattle.lf_contexts.proofs.Tables.{errors_are_named}
-use Rattle.lf_contexts.proofs.laws.context_errors_are_named.Goals as goal
-
-pub returns : goal.returns
-returns c = errors_are_named

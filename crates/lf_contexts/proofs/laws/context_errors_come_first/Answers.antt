@@ -1,5 +1,0 @@
-use Rattle.lf_contexts.proofs.Framed.{context_errors_come_first}
-use Rattle.lf_contexts.proofs.laws.context_errors_come_first.Goals as goal
-
-pub returns : goal.returns
-returns c = context_errors_come_first

@@ -1,5 +1,0 @@
-use Rattle.lf_contexts.proofs.Tables.{errors_have_causes}
-use Rattle.lf_contexts.proofs.laws.context_errors_have_causes.Goals as goal
-
-pub returns : goal.returns
-returns c = errors_have_causes

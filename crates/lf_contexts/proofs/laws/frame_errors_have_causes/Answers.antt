@@ -1,5 +1,0 @@
-use Rattle.lf_contexts.proofs.Framed.{frame_errors_have_causes}
-use Rattle.lf_contexts.proofs.laws.frame_errors_have_causes.Goals as goal
-
-pub returns : goal.returns
-returns c = frame_errors_have_causes

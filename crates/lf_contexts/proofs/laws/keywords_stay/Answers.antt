@@ -1,5 +1,0 @@
-use Rattle.lf_contexts.proofs.Expanding.{keywords_stay}
-use Rattle.lf_contexts.proofs.laws.keywords_stay.Goals as goal
-
-pub returns : goal.returns
-returns c = keywords_stay

@@ -1,5 +1,0 @@
-use Rattle.lf_contexts.proofs.Framed.{one_map_in_an_array}
-use Rattle.lf_contexts.proofs.laws.one_map_in_an_array.Goals as goal
-
-pub returns : goal.returns
-returns c = one_map_in_an_array

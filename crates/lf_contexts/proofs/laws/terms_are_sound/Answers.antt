@@ -1,5 +1,0 @@
-use Rattle.lf_contexts.proofs.Tables.{terms_are_sound}
-use Rattle.lf_contexts.proofs.laws.terms_are_sound.Goals as goal
-
-pub returns : goal.returns
-returns c = terms_are_sound

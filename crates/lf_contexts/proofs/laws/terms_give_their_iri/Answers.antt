@@ -1,5 +1,0 @@
-use Rattle.lf_contexts.proofs.Expanding.{terms_give}
-use Rattle.lf_contexts.proofs.laws.terms_give_their_iri.Goals as goal
-
-pub returns : goal.returns
-returns c = terms_give

@@ -1,5 +1,0 @@
-use Rattle.lf_datasets.proofs.CellProofs as laws
-use Rattle.lf_datasets.proofs.cell_laws.cells_are_least.Goals as goal
-
-pub returns : goal.returns
-returns c = laws.cells_are_least

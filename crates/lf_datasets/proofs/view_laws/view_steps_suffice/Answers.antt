@@ -1,5 +1,0 @@
-use Rattle.lf_datasets.proofs.ViewProofs as laws
-use Rattle.lf_datasets.proofs.view_laws.view_steps_suffice.Goals as goal
-
-pub returns : goal.returns
-returns c = laws.view_steps_suffice

@@ -1,5 +1,0 @@
-use Rattle.lf_documents.proofs.OrderedNodes.{compact-ordered}
-use Rattle.lf_documents.proofs.laws.compacted_is_ordered.Goals as goal
-
-pub returns : goal.returns
-returns c = compact-ordered

@@ -1,5 +1,0 @@
-use Rattle.lf_documents.proofs.Pruned.{counts-append}
-use Rattle.lf_documents.proofs.laws.counts_add_up.Goals as goal
-
-pub returns : goal.returns
-returns c = counts-append

@@ -1,5 +1,0 @@
-use Rattle.lf_documents.proofs.Documents.{first-excess}
-use Rattle.lf_documents.proofs.laws.first_excess_decides.Goals as goal
-
-pub returns : goal.returns
-returns c = first-excess

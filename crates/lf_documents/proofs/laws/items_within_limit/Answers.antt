@@ -1,5 +1,0 @@
-use Rattle.lf_documents.proofs.Documents.{items-limit}
-use Rattle.lf_documents.proofs.laws.items_within_limit.Goals as goal
-
-pub returns : goal.returns
-returns c = items-limit

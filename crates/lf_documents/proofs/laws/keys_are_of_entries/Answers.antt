@@ -1,5 +1,0 @@
-use Rattle.lf_documents.proofs.Keys.{keys-entries}
-use Rattle.lf_documents.proofs.laws.keys_are_of_entries.Goals as goal
-
-pub returns : goal.returns
-returns c = keys-entries

@@ -1,5 +1,0 @@
-use Rattle.lf_documents.proofs.Keys.{keys-ascend}
-use Rattle.lf_documents.proofs.laws.keys_ascend.Goals as goal
-
-pub returns : goal.returns
-returns c = keys-ascend

@@ -1,5 +1,0 @@
-use Rattle.lf_documents.proofs.Pruned.{items-kept}
-use Rattle.lf_documents.proofs.laws.pruning_keeps_items.Goals as goal
-
-pub returns : goal.returns
-returns c = items-kept

@@ -1,5 +1,0 @@
-use Rattle.lf_documents.proofs.Documents.{refused-confused}
-use Rattle.lf_documents.proofs.laws.refused_as_confused.Goals as goal
-
-pub returns : goal.returns
-returns c = refused-confused

@@ -1,5 +1,0 @@
-use Rattle.lf_documents.proofs.Documents.{text-within}
-use Rattle.lf_documents.proofs.laws.text_within_limit.Goals as goal
-
-pub returns : goal.returns
-returns c = text-within

@@ -1,5 +1,0 @@
-use Rattle.lf_framing.proofs.OnPath.{never_never}
-use Rattle.lf_framing.proofs.laws.never_is_never.Goals as goal
-
-pub returns : goal.returns
-returns c = never_never

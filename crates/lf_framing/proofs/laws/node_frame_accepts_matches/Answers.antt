@@ -1,5 +1,0 @@
-use Rattle.lf_framing.proofs.Matched.{node_frame_matches}
-use Rattle.lf_framing.proofs.laws.node_frame_accepts_matches.Goals as goal
-
-pub returns : goal.returns
-returns c = node_frame_matches

@@ -1,5 +1,0 @@
-use Rattle.lf_framing.proofs.Matched.{same_views}
-use Rattle.lf_framing.proofs.laws.same_views_same_tree.Goals as goal
-
-pub returns : goal.returns
-returns c = same_views

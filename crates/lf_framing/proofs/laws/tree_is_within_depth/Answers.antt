@@ -1,5 +1,0 @@
-use Rattle.lf_framing.proofs.Nesting.{tree_depth}
-use Rattle.lf_framing.proofs.laws.tree_is_within_depth.Goals as goal
-
-pub returns : goal.returns
-returns c = tree_depth

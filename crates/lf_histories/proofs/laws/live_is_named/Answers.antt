@@ -1,5 +1,0 @@
-use Rattle.lf_histories.proofs.StandingProofs.{live_is_named}
-use Rattle.lf_histories.proofs.laws.live_is_named.Goals as goal
-
-pub returns : goal.returns
-returns c = live_is_named

@@ -1,5 +1,0 @@
-use Rattle.lf_histories.proofs.TextProofs.{patch_texts_in_any_order}
-use Rattle.lf_histories.proofs.laws.patch_texts_in_any_order.Goals as goal
-
-pub returns : goal.returns
-returns c = patch_texts_in_any_order

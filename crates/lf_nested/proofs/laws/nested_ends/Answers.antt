@@ -1,5 +1,0 @@
-use Rattle.lf_nested.proofs.Unfolded.{nested_past}
-use Rattle.lf_nested.proofs.laws.nested_ends.Goals as goal
-
-pub returns : goal.returns
-returns c = nested_past

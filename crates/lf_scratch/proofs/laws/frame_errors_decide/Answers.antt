@@ -1,5 +1,0 @@
-use Rattle.lf_scratch.proofs.Documents.{errors_decide}
-use Rattle.lf_scratch.proofs.laws.frame_errors_decide.Goals as goal
-
-pub returns : goal.returns
-returns c = errors_decide

@@ -1,5 +1,0 @@
-use Rattle.lf_scratch.proofs.Documents.{same_document}
-use Rattle.lf_scratch.proofs.laws.same_views_same_document.Goals as goal
-
-pub returns : goal.returns
-returns c = same_document

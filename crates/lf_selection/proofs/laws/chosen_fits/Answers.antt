@@ -1,5 +1,0 @@
-use Rattle.lf_selection.proofs.Fits.{chosen-fits}
-use Rattle.lf_selection.proofs.laws.chosen_fits.Goals as goal
-
-pub returns : goal.returns
-returns c = chosen-fits

@@ -1,5 +1,0 @@
-use Rattle.lf_selection.proofs.Fits.{chosen-least}
-use Rattle.lf_selection.proofs.laws.chosen_is_least.Goals as goal
-
-pub returns : goal.returns
-returns c = chosen-least

@@ -1,5 +1,0 @@
-use Rattle.lf_selection.proofs.RoundTrip.{gives-back}
-use Rattle.lf_selection.proofs.laws.expansion_gives_back.Goals as goal
-
-pub returns : goal.returns
-returns c = gives-back

@@ -1,5 +1,0 @@
-use Rattle.lf_selection.proofs.Fits.{none-fits}
-use Rattle.lf_selection.proofs.laws.none_fits.Goals as goal
-
-pub returns : goal.returns
-returns c = none-fits

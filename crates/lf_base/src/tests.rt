@@ -5,7 +5,7 @@ use std::test::Fail;
 fn texts_copy_and_compare(rt: HostRuntime) -> Result<(), Fail> {
     let alloc = rt.alloc();
     let one = Text::of(alloc, "naïve")?;
-    let two = Text::from_string(String::from_str(alloc, "naïve")?);
+    let two = Text::from_string(String::from_str(alloc, "naïve")?)?;
     assert!(rt; one.is(&two) && one.copy(alloc)?.is(&one));
     assert_eq!(rt; one.as_str(), "naïve");
     let mut texts = TextList::new(alloc);

@@ -11,19 +11,21 @@ use crate::memory::Memory;
 use std::alloc::Global;
 use std::cmp::Ordering;
 use std::marker::Model;
+use std::sync::ArcStr;
 
-/// A text that contracts see as its UTF-8 bytes. Its order is that of the bytes.
+/// A text that contracts see as its UTF-8 bytes. Its order is that of the bytes. Copies share the bytes.
 #[derive(Debug, Drop)]
 pub struct Text {
-    inner: String,
+    inner: ArcStr,
 }
 
 impl Model for Text {
-    ghost use Rattle.std.specs.Prelude.{List, ℕ, string_bytes};
+    ghost use Rattle.std.specs.Prelude.{List, ℕ};
+    ghost use Rattle.std.specs.Arc.{arc_str_bytes};
 
     ghost Value = { List ℕ };
 
-    ghost view = { λ t. string_bytes t.inner };
+    ghost view = { λ t. arc_str_bytes t.inner };
 }
 
 impl Text {
@@ -32,15 +34,17 @@ impl Text {
         ensures { IfOk result (λ t. t ≡ text.now) }
     {
         Ok(Text {
-            inner: String::from_str(alloc, text)?,
+            inner: ArcStr::from_str(alloc, text)?,
         })
     }
 
-    /// The text of a string, which is not copied.
-    pub fn from_string(inner: String) -> Text
-        ensures { result ≡ string_bytes inner }
+    /// The text of a string, whose bytes are not copied.
+    pub fn from_string(text: String) -> Result<Text, Memory>
+        ensures { IfOk result (λ t. t ≡ string_bytes text) }
     {
-        Text { inner }
+        Ok(Text {
+            inner: ArcStr::from_string(text)?,
+        })
     }
 
     /// The characters.
@@ -93,8 +97,10 @@ impl Ord for Text {
 }
 
 impl TryCopy for Text {
-    fn copy(&self, alloc: Global) -> Result<Text, Memory> {
-        Text::of(alloc, self.as_str())
+    fn copy(&self, _alloc: Global) -> Result<Text, Memory> {
+        Ok(Text {
+            inner: self.inner.clone()?,
+        })
     }
 }
 

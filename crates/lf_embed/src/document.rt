@@ -72,9 +72,9 @@ fn write_document(writer: &mut Writer, want: Option<&Text>, facts: &[Fact]) -> R
 }
 
 /// The text that was written.
-fn text_of(writer: Writer) -> Text
+fn text_of(writer: Writer) -> Result<Text, Memory>
     requires { writer.before ≡ [] }
-    ensures { result ≡ print writer.tokens }
+    ensures { IfOk result (λ text. text ≡ print writer.tokens) }
 {
     Text::from_string(String::from_utf8(writer.into_inner()).unwrap())
 }
@@ -87,5 +87,5 @@ pub fn small_document(alloc: Global, want: Option<&Text>, quads: &QuadList) -> R
     let facts = facts_in_order(alloc, quads)?;
     let mut writer = Writer::new(Vec::new(alloc));
     write_document(&mut writer, want, facts.as_slice())?;
-    Ok(text_of(writer))
+    Ok(text_of(writer)?)
 }

@@ -29,5 +29,5 @@ pub fn ascii_text(alloc: Global, bytes: &[u8]) -> Result<Text, Memory>
     requires { IsAscii bytes.now }
     ensures { IfOk result (λ text. text ≡ bytes.now) }
 {
-    Ok(Text::from_string(String::from_utf8_lossy(alloc, bytes)?))
+    Ok(Text::from_string(String::from_utf8_lossy(alloc, bytes)?)?)
 }

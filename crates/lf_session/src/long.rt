@@ -29,7 +29,7 @@ pub fn frame_text(alloc: Global, name: &str) -> Result<Text, Memory>
     let mut text = String::from_str(alloc, "{\"frame\":\"")?;
     text.push_str(name)?;
     text.push_str("\"}")?;
-    Ok(Text::from_string(text))
+    Text::from_string(text)
 }
 
 // The members of the body of a fractional number.
@@ -49,9 +49,9 @@ fn write_fractional(writer: &mut Writer, path: &Text) -> Result<(), Memory>
 }
 
 // The text that was written.
-fn text_of(writer: Writer) -> Text
+fn text_of(writer: Writer) -> Result<Text, Memory>
     requires { writer.before ≡ [] }
-    ensures { result ≡ print writer.tokens }
+    ensures { IfOk result (λ text. text ≡ print writer.tokens) }
 {
     Text::from_string(String::from_utf8(writer.into_inner()).unwrap())
 }
@@ -62,7 +62,7 @@ pub fn fractional_text(alloc: Global, path: &Text) -> Result<Text, Memory>
 {
     let mut writer = Writer::new(Vec::new(alloc));
     write_fractional(&mut writer, path)?;
-    Ok(text_of(writer))
+    Ok(text_of(writer)?)
 }
 
 // A JSON text that was made, and speaks of no version.

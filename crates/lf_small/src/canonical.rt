@@ -78,9 +78,9 @@ pub fn id_text(alloc: Global, term: &Term) -> Result<Text, Memory>
         Term::Blank(label) => {
             let mut id = String::from_str(alloc, "_:")?;
             id.push_str(label.as_str())?;
-            Ok(Text::from_string(id))
+            Text::from_string(id)
         }
-        Term::Literal { .. } => Ok(Text::from_string(String::new(alloc))),
+        Term::Literal { .. } => Text::of(alloc, ""),
     }
 }
 
@@ -104,5 +104,5 @@ pub fn canonical_text(alloc: Global, term: &Term) -> Result<Text, Memory>
             push_suffix(&mut out, datatype, language)?;
         }
     }
-    Ok(Text::from_string(out))
+    Text::from_string(out)
 }

@@ -10,7 +10,7 @@ pub returns : goal.returns
 returns c =
     let want = option_copied c.args.want in
     let facts = c.as_slice.result.now in
-    c.text_of.ensures
+    c.in_ok-text_of.ensures
     ∙ ap print (c.in_ok-write_document.ensures.after ∙ ap (λ ts. ts ++ document_tokens want facts) c.new-writer.ensures.tokens)
     ∙ document-printed want facts
     ∙ ap (document_of want) c.as_slice.ensures.value

@@ -5,4 +5,4 @@ use Rattle.lf_session.proofs.long.fractional_text.Goals as goal
 
 pub returns : goal.returns
 returns c =
-    c.text_of.ensures ∙ ap print c.in_ok-write_fractional.ensures.tokens ∙ fractional-printed c.args.path.now
+    c.in_ok-text_of.ensures ∙ ap print c.in_ok-write_fractional.ensures.tokens ∙ fractional-printed c.args.path.now

@@ -5,9 +5,9 @@ use Rattle.def_datasets.proofs.QuestionProofs.{untouched_by_patch}
 use Rattle.lf_oracle.specs.Laws.{LearntIsExact, LearntStays}
 
 pub learnt_is_exact : {A : Type 0} → LearntIsExact A
-learnt_is_exact dataset before told first last gives given learnt = learnt.same dataset (λ place d within. refl)
+learnt_is_exact asked dataset gives given learnt = learnt dataset (λ place d within. refl)
 
 pub learnt_stays : {A : Type 0} → LearntStays A
-learnt_stays dataset before told first last gives given learnt patch ordered untouched =
-    learnt.same (after dataset patch)
-    (λ place d within. untouched_by_patch dataset patch (get_or learnt.asked place d) ordered (untouched place d within))
+learnt_stays asked dataset gives given learnt patch ordered untouched =
+    learnt (after dataset patch)
+    (λ place d within. untouched_by_patch dataset patch (get_or asked place d) ordered (untouched place d within))

@@ -34,13 +34,18 @@ told_with more (Some before) = Some (before ++ more)
 abbrev pub SameAnswers : List Quad → List Quad → List Question → Type 0
 SameAnswers one two asked = All (λ question. answer two question ≡ answer one question) asked
 
--- Some questions were asked, and what was given every dataset gives that answers them alike, the dataset itself first of all. The
--- told questions grew by them, and the steps rose by as many.
-pub record Learns {A : Type 0} (dataset : List Quad) (before after : Option (List Question)) (first last : ℕ) (gives : List Quad → A) (given : A) : Type 0 where
+-- what was given, every dataset gives that answers the questions alike, the dataset itself first of all
+abbrev pub IsLearntBy : {A : Type 0} → List Question → List Quad → (List Quad → A) → A → Type 0
+IsLearntBy asked dataset gives given = (other : List Quad) → SameAnswers dataset other asked → given ≡ gives other
+
+-- Some questions were asked, each of them near, and what was given is learnt by them. The told questions grew by them, and the
+-- steps rose by as many.
+pub record Learns {A : Type 0} (Near : Question → Type 0) (dataset : List Quad) (before after : Option (List Question)) (first last : ℕ) (gives : List Quad → A) (given : A) : Type 0 where
   pub asked : List Question
   pub told : after ≡ told_with asked before
   pub counted : last ≡ first + length asked
-  pub same : (other : List Quad) → SameAnswers dataset other asked → given ≡ gives other
+  pub near : All Near asked
+  pub same : IsLearntBy asked dataset gives given
 
 -- a question that is answered by yes or no
 abbrev pub asks_flag : Question → Bool

@@ -1,5 +1,5 @@
 -- Which terms the questions of a call are near, for a frame without `@reverse` (JSON-LD 1.1 Framing, section 4.1).
-use Rattle.std.specs.Prelude.{◌≡◌, ◌⊎◌, ⊤, List, [], Option, All, IsTrue}
+use Rattle.std.specs.Prelude.{◌≡◌, ◌⊎◌, ⊤, List, [], IsTrue}
 use Rattle.std.specs.List.{list_any}
 use Rattle.lf_rdf.specs.declared.quad.Quad.{Quad}
 use Rattle.lf_rdf.specs.declared.term.Term.{Term}
@@ -9,17 +9,10 @@ use Rattle.lf_rdf.specs.declared.question.Question.{Question}
 use Rattle.lf_rdf.specs.Equality.{term_eq}
 use Rattle.def_datasets.specs.Near.{NearQuestion}
 use Rattle.def_datasets.specs.Questions.{inward, members}
-use Rattle.lf_oracle.specs.Asking.{told_with}
 
 -- a question is near one of these terms
 abbrev pub IsNearOne : List Quad → (Term → Type 0) → Question → Type 0
 IsNearOne dataset Is question = (x : Term) × (Is x × NearQuestion dataset [] x question)
-
--- some questions were asked, and each is near one of these terms
-pub record AsksNear (dataset : List Quad) (before after : Option (List Question)) (Is : Term → Type 0) : Type 0 where
-  pub asked : List Question
-  pub told : after ≡ told_with asked before
-  pub near : All (IsNearOne dataset Is) asked
 
 -- a term is the name
 abbrev pub IsNamed : Term → Term → Type 0
@@ -45,7 +38,7 @@ abbrev pub IsMember : List Quad → GraphRef → Term → Type 0
 IsMember dataset g x = NamesGraph g x ⊎ IsTrue (list_any (term_eq x) (members dataset g))
 
 -- the questions for the keys of a named graph are near its members; those for the keys of other graphs may be about any term
-abbrev pub AsksNearMembers : List Quad → Option (List Question) → Option (List Question) → GraphRef → Type 0
-AsksNearMembers dataset before after graph.Default = ⊤
-AsksNearMembers dataset before after (graph.Named name) = AsksNear dataset before after (IsMember dataset (graph.Named name))
-AsksNearMembers dataset before after graph.Merged = ⊤
+abbrev pub IsNearMembers : List Quad → GraphRef → Question → Type 0
+IsNearMembers dataset graph.Default question = ⊤
+IsNearMembers dataset (graph.Named name) question = IsNearOne dataset (IsMember dataset (graph.Named name)) question
+IsNearMembers dataset graph.Merged question = ⊤

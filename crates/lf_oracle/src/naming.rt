@@ -1,7 +1,7 @@
 ghost use Rattle.std.specs.Prelude.{◌≡◌, IfOk};
 ghost use Rattle.def_datasets.specs.Questions.{named};
 ghost use Rattle.lf_oracle.specs.Asking.{Learns};
-ghost use Rattle.lf_oracle.specs.Nearby.{AsksNear, IsNamed};
+ghost use Rattle.lf_oracle.specs.Nearby.{IsNamed, IsNearOne};
 
 use crate::asking::ask_flag;
 use crate::oracle::Oracle;
@@ -17,8 +17,7 @@ pub fn names_graph<O: Oracle, L: Ledger>(
     name: &Term,
     steps: &mut Steps<L>,
 ) -> Result<bool, Memory>
-    ensures names { IfOk result (λ found. Learns (O.quads oracle.old) (O.told oracle.old) (O.told oracle.new) steps.old steps.new (λ dataset. named dataset name.now) found) }
-    ensures near { IfOk result (λ found. AsksNear (O.quads oracle.old) (O.told oracle.old) (O.told oracle.new) (IsNamed name.now)) }
+    ensures names { IfOk result (λ found. Learns (IsNearOne (O.quads oracle.old) (IsNamed name.now)) (O.quads oracle.old) (O.told oracle.old) (O.told oracle.new) steps.old steps.new (λ dataset. named dataset name.now) found) }
     ensures quads_stay { O.quads oracle.new ≡ O.quads oracle.old }
 {
     let question = Question::Named(name.copy(alloc)?);

@@ -4,7 +4,7 @@ ghost use Rattle.lf_rdf.specs.declared.question.Question.{Question};
 ghost use Rattle.def_datasets.specs.Questions.{named};
 ghost use Rattle.def_datasets.specs.Views.{keys, view_of};
 ghost use Rattle.lf_oracle.specs.Asking.{Learns};
-ghost use Rattle.lf_oracle.specs.Nearby.{AsksNear, AsksNearMembers, IsNamed, IsOfNode, IsPointing};
+ghost use Rattle.lf_oracle.specs.Nearby.{IsNamed, IsNearMembers, IsNearOne, IsOfNode, IsPointing};
 ghost use Rattle.lf_oracle.specs.NodeViews.{pointing_at, view_data};
 
 use lf_base::{Memory, Steps};
@@ -31,8 +31,7 @@ pub trait Nodes {
         id: &Term,
         steps: &mut Steps<L>,
     ) -> Result<Option<NodeView>, Memory>
-        ensures view { IfOk result (λ found. Learns (quads self.old) (told self.old) (told self.new) steps.old steps.new (λ dataset. view_of dataset graph.now id.now) (option_map view_data found)) }
-        ensures near { IfOk result (λ found. AsksNear (quads self.old) (told self.old) (told self.new) (IsOfNode graph.now id.now)) }
+        ensures view { IfOk result (λ found. Learns (IsNearOne (quads self.old) (IsOfNode graph.now id.now)) (quads self.old) (told self.old) (told self.new) steps.old steps.new (λ dataset. view_of dataset graph.now id.now) (option_map view_data found)) }
         ensures quads_stay { quads self.new ≡ quads self.old };
 
     /// The keys of a graph, in order of their ids.
@@ -42,8 +41,7 @@ pub trait Nodes {
         graph: &GraphRef,
         steps: &mut Steps<L>,
     ) -> Result<TermList, Memory>
-        ensures keys { IfOk result (λ found. Learns (quads self.old) (told self.old) (told self.new) steps.old steps.new (λ dataset. keys dataset graph.now) found) }
-        ensures near { IfOk result (λ found. AsksNearMembers (quads self.old) (told self.old) (told self.new) graph.now) }
+        ensures keys { IfOk result (λ found. Learns (IsNearMembers (quads self.old) graph.now) (quads self.old) (told self.old) (told self.new) steps.old steps.new (λ dataset. keys dataset graph.now) found) }
         ensures quads_stay { quads self.new ≡ quads self.old };
 
     /// The keys of a graph whose view has the reference to a node under a property, in order of their ids.
@@ -55,8 +53,7 @@ pub trait Nodes {
         id: &Term,
         steps: &mut Steps<L>,
     ) -> Result<TermList, Memory>
-        ensures keys { IfOk result (λ found. Learns (quads self.old) (told self.old) (told self.new) steps.old steps.new (λ dataset. pointing_at dataset graph.now property.now id.now) found) }
-        ensures near { IfOk result (λ found. AsksNear (quads self.old) (told self.old) (told self.new) (IsPointing (quads self.old) graph.now property.now id.now)) }
+        ensures keys { IfOk result (λ found. Learns (IsNearOne (quads self.old) (IsPointing (quads self.old) graph.now property.now id.now)) (quads self.old) (told self.old) (told self.new) steps.old steps.new (λ dataset. pointing_at dataset graph.now property.now id.now) found) }
         ensures quads_stay { quads self.new ≡ quads self.old };
 
     /// Whether a quad lies in the graph of this name.
@@ -66,7 +63,6 @@ pub trait Nodes {
         name: &Term,
         steps: &mut Steps<L>,
     ) -> Result<bool, Memory>
-        ensures names { IfOk result (λ found. Learns (quads self.old) (told self.old) (told self.new) steps.old steps.new (λ dataset. named dataset name.now) found) }
-        ensures near { IfOk result (λ found. AsksNear (quads self.old) (told self.old) (told self.new) (IsNamed name.now)) }
+        ensures names { IfOk result (λ found. Learns (IsNearOne (quads self.old) (IsNamed name.now)) (quads self.old) (told self.old) (told self.new) steps.old steps.new (λ dataset. named dataset name.now) found) }
         ensures quads_stay { quads self.new ≡ quads self.old };
 }

@@ -1,0 +1,5 @@
+pub mod Walks
+pub mod Compact
+pub mod Going
+pub mod Printing
+pub mod Decimals

@@ -1,0 +1,10 @@
+use Rattle.std.proofs.Common.{◌≡◌, IfOk, ap, subst, ◌∙◌, rules}
+use Rattle.json.specs.Print.{print}
+use Rattle.lf_model.specs.JsonBridge.{json_data}
+use Rattle.lf_json.proofs.Printing.{printed_value}
+use Rattle.lf_json.proofs.write.text.Goals as goal
+
+pub returns : goal.returns
+returns c =
+    let appended = c.in_ok-write.ensures c.requires in
+    subst (λ bytes. IfOk c.text_of.result (λ text. text ≡ bytes)) (ap print (appended.tokens ∙ ap (λ l. l) (search rules)) ∙ printed_value (json_data c.args.json.now) c.requires) c.text_of.ensures

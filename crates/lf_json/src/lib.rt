@@ -1,0 +1,12 @@
+//! JSON texts read as values, and values written as compact texts (RFC 8259).
+#![tactic(auto)]
+
+mod laws;
+mod read;
+#[cfg(test)]
+mod tests;
+mod write;
+
+pub use laws::text_is_compact;
+pub use read::{JsonErr, read_json};
+pub use write::{has_fraction, text};

@@ -1,10 +1,11 @@
 //! N-Quads texts (RDF 1.1 N-Quads): so far the lines of the first form.
 #![tactic(auto)]
 
-mod line;
-mod text;
+mod first;
+mod write;
 
-pub use text::read_first;
+pub use first::read_first;
+pub use write::write_quads;
 
 #[cfg(test)]
 mod tests;

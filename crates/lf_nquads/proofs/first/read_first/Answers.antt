@@ -1,8 +1,8 @@
 use Rattle.std.proofs.lemmas.Result.{err_from_is_err_and}
 use Rattle.lf_first.specs.First.{quads_of}
 use Rattle.lf_first.proofs.ByLine.{all_first}
-use Rattle.lf_nquads.proofs.Loop.{completes_more, leaves_more, adds_more, is_read, is_shorter, not_empty, is_nothing, exits}
-use Rattle.lf_nquads.proofs.text.read_first.Goals as goal
+use Rattle.lf_nquads.proofs.FirstLoop.{completes_more, leaves_more, adds_more, is_read, is_shorter, not_empty, is_nothing, exits}
+use Rattle.lf_nquads.proofs.first.read_first.Goals as goal
 
 pub returns-in_err-quad-clause-not_built : goal.returns-in_err-quad-clause-not_built
 returns-in_err-quad-clause-not_built c =

@@ -1,7 +1,7 @@
 use Rattle.std.proofs.Common.{◌≡◌, true, length}
 use Rattle.std.specs.List.{list_all}
-use Rattle.lf_nquads.proofs.Loop.{Completes, Leaves}
-use Rattle.lf_nquads.proofs.text.read_first.Given as goal
+use Rattle.lf_nquads.proofs.FirstLoop.{Completes, Leaves}
+use Rattle.lf_nquads.proofs.first.read_first.Given as goal
 
 abbrev pub invariant-loop-rest : goal.invariant-loop-rest
 invariant-loop-rest l = record {

@@ -1,11 +1,13 @@
-ghost use Rattle.std.specs.Prelude.{◌≡◌};
-ghost use Rattle.std.specs.List.{prefix_len};
-ghost use Rattle.lf_first.specs.First.{is_string_byte};
+//! The lines of the first form, until whole N-Quads take their place.
+ghost use Rattle.std.specs.Prelude.{◌≡◌, List, length, IfOk, IsErrOf, IsTrue};
+ghost use Rattle.std.specs.List.{list_all, prefix_len};
+ghost use Rattle.lf_rdf.specs.declared.quad.Quad.{Quad as QuadShape};
+ghost use Rattle.lf_first.specs.First.{IsFirstText, is_string_byte, quads_of, is_first_quad};
 ghost use Rattle.lf_first.specs.Reading.{Gives, iri_at, string_at, object_at, after_end, line_at};
 
 use lf_base::Text;
 use lf_first::{FirstErr, after_byte, ascii_text, iri_front, is_string_byte};
-use lf_rdf::{Quad, Term, is_rdf_type, xsd_string};
+use lf_rdf::{Patch, Quad, Signed, SignedList, Term, is_rdf_type, xsd_string};
 use std::alloc::Global;
 
 /// The IRI in angle brackets at the front, and what follows it.
@@ -76,7 +78,7 @@ fn end_of(bytes: &[u8]) -> Result<&[u8], FirstErr>
 
 /// The quad of the line at the front, and what follows the line.
 #[tactic(auto, unfolding(lf_first::specs::Reading::line_at))]
-pub fn line_of(alloc: Global, bytes: &[u8]) -> Result<(Quad, &[u8]), FirstErr>
+fn line_of(alloc: Global, bytes: &[u8]) -> Result<(Quad, &[u8]), FirstErr>
     ensures { Gives (λ found. (found.0, found.1.now)) result (line_at bytes.now) }
 {
     let (subject, rest) = iri_of(alloc, bytes)?;
@@ -92,4 +94,28 @@ pub fn line_of(alloc: Global, bytes: &[u8]) -> Result<(Quad, &[u8]), FirstErr>
         graph: None,
     };
     Ok((quad, rest))
+}
+
+/// The additions that a text of the first form states, in order, and how many bytes it has. `FirstErr::NotBuilt` comes
+/// exactly where a line isn't of the first form.
+pub fn read_first(alloc: Global, bytes: &[u8]) -> Result<Patch, FirstErr>
+    ensures read { IfOk result (λ patch. IsFirstText bytes.now (quads_of patch.lines)) }
+    ensures adds { IfOk result (λ patch. IsTrue (list_all (λ signed. signed.add) patch.lines)) }
+    ensures first { IfOk result (λ patch. IsTrue (list_all is_first_quad (quads_of patch.lines))) }
+    ensures bytes { IfOk result (λ patch. patch.bytes ≡ length bytes.now) }
+
+    // No list of quads is stated where the text isn't of the first form.
+    ensures not_built { IsErrOf result FirstErr.NotBuilt → (quads : List QuadShape) → ¬ (IsFirstText bytes.now quads) }
+{
+    let mut lines = SignedList::new(alloc);
+    let mut rest = bytes;
+    while !rest.is_empty() {
+        let (quad, after) = line_of(alloc, rest)?;
+        lines.push(Signed { add: true, quad })?;
+        rest = after;
+    }
+    Ok(Patch {
+        lines,
+        bytes: bytes.len() as u64,
+    })
 }

@@ -1,0 +1,115 @@
+-- A line read from left to right, with what is wrong where the reading stops. Where it gives something it gives what
+-- `def_patch_texts` reads (its `Reading`).
+use Rattle.std.specs.Prelude.{ℕ, zero, suc, nat_eq, Bool, true, false, List, [], ◌∷◌, length, Option, Some, None, Result, Ok, Err, if◌then◌else◌, encode_utf8_all}
+use Rattle.lf_rdf.specs.declared.term.Term.{Term}
+use Rattle.lf_rdf.specs.declared.term.Term.TheVariants.{Iri, Blank, Literal}
+use Rattle.lf_rdf.specs.declared.quad.Quad.{Quad}
+use Rattle.lf_rdf.specs.declared.quad.Signed.{Signed}
+use Rattle.lf_rdf.specs.Vocabulary.{xsd_string, rdf_lang_string}
+use Rattle.def_patch_texts.specs.declared.kind.LineKind.{LineKind}
+use Rattle.def_patch_texts.specs.declared.kind.LineKind.TheVariants.{Syntax, RelativeIri, BadEscape}
+use Rattle.def_patch_texts.specs.Terminals.{Allowed}
+use Rattle.def_patch_texts.specs.Reading.{starts, after_char, skip, iri_part_at, blank_at, tag_at, string_part_at, is_comment, quad_of, sign_at}
+
+infixl 10 ◌>>=◌
+abbrev pub ◌>>=◌ : {A B : Type 0} → Result A LineKind → (A → Result B LineKind) → Result B LineKind
+(Ok x) >>= f = f x
+(Err kind) >>= f = Err kind
+
+-- what must stand here
+abbrev pub expected : {A : Type 0} → Option A → Result A LineKind
+expected None = Err Syntax
+expected (Some x) = Ok x
+
+-- a part of an IRI or a string at the front of this text: behind a backslash only an escape may stand
+abbrev pub part_of : {A : Type 0} → List ℕ → Option A → Result A LineKind
+part_of text None = Err (if starts 92 text then BadEscape else Syntax)
+part_of text (Some x) = Ok x
+
+-- ---- IRIs and strings
+
+-- the characters before `>`, which are at most so many
+unfoldable pub iri_parts_of : ℕ → Allowed → List ℕ → Result (List ℕ × List ℕ) LineKind
+iri_parts_of zero allowed text = Err Syntax
+iri_parts_of (suc room) allowed text =
+    if starts 62 text then Ok ([], text)
+    else (part_of text (iri_part_at allowed text) >>= λ part. iri_parts_of room allowed part.1 >>= λ others. Ok (part.0 ∷ others.0, others.1))
+
+unfoldable pub iri_of : Allowed → List ℕ → Result (List ℕ × List ℕ) LineKind
+iri_of allowed text = do
+  inside ← expected (after_char 60 text)
+  parts ← iri_parts_of (suc (length inside)) allowed inside
+  rest ← expected (after_char 62 parts.1)
+  if allowed.iri parts.0 rest then Ok (encode_utf8_all parts.0, rest) else Err RelativeIri
+
+-- the characters before `"`, which are at most so many
+unfoldable pub string_parts_of : ℕ → Allowed → List ℕ → Result (List ℕ × List ℕ) LineKind
+string_parts_of zero allowed text = Err Syntax
+string_parts_of (suc room) allowed text =
+    if starts 34 text then Ok ([], text)
+    else (part_of text (string_part_at allowed text) >>= λ part. string_parts_of room allowed part.1 >>= λ others. Ok (part.0 ∷ others.0, others.1))
+
+unfoldable pub string_of : Allowed → List ℕ → Result (List ℕ × List ℕ) LineKind
+string_of allowed text = do
+  inside ← expected (after_char 34 text)
+  parts ← string_parts_of (suc (length inside)) allowed inside
+  rest ← expected (after_char 34 parts.1)
+  Ok (encode_utf8_all parts.0, rest)
+
+-- ---- terms
+
+-- an IRI or a blank node
+unfoldable pub node_of : Allowed → List ℕ → Result (Term × List ℕ) LineKind
+node_of allowed text =
+    if starts 60 text then (iri_of allowed text >>= λ iri. Ok (Iri iri.0, iri.1))
+    else (expected (blank_at text) >>= λ label. Ok (Blank label.0, label.1))
+
+-- the datatype behind `^^`
+unfoldable pub typed_of : Allowed → List ℕ → Result (List ℕ × List ℕ) LineKind
+typed_of allowed text = do
+  caret ← expected (after_char 94 text)
+  iri ← expected (after_char 94 caret)
+  iri_of allowed (skip iri)
+
+-- a literal with this string, behind which this text stands
+unfoldable pub suffix_of : Allowed → List ℕ → List ℕ → Result (Term × List ℕ) LineKind
+suffix_of allowed value text =
+    if starts 94 (skip text) then (typed_of allowed (skip text) >>= λ datatype. Ok (Literal value datatype.0 None, datatype.1))
+    else if starts 64 (skip text) then (expected (tag_at (skip text)) >>= λ tag. Ok (Literal value rdf_lang_string (Some tag.0), tag.1))
+    else Ok (Literal value xsd_string None, text)
+
+unfoldable pub object_of : Allowed → List ℕ → Result (Term × List ℕ) LineKind
+object_of allowed text =
+    if starts 34 text then (string_of allowed text >>= λ value. suffix_of allowed value.0 value.1) else node_of allowed text
+
+-- ---- lines
+
+-- a graph label and the dot
+unfoldable pub named_of : Allowed → List ℕ → Result (Option Term × List ℕ) LineKind
+named_of allowed text = do
+  name ← node_of allowed text
+  rest ← expected (after_char 46 (skip name.1))
+  Ok (Some name.0, rest)
+
+-- the graph label, where there is one, and the dot
+unfoldable pub graph_of : Allowed → List ℕ → Result (Option Term × List ℕ) LineKind
+graph_of allowed text =
+    if starts 46 (skip text) then (expected (after_char 46 (skip text)) >>= λ rest. Ok (None, rest)) else named_of allowed (skip text)
+
+unfoldable pub statement_of : Allowed → List ℕ → Result Quad LineKind
+statement_of allowed text = do
+  subject ← node_of allowed (skip text)
+  predicate ← iri_of allowed (skip subject.1)
+  object ← object_of allowed (skip predicate.1)
+  graph ← graph_of allowed object.1
+  if is_comment (skip graph.1) then Ok (quad_of subject.0 predicate.0 object.0 graph.0) else Err Syntax
+
+unfoldable pub signed_of : Allowed → List ℕ → Result (Option Signed) LineKind
+signed_of allowed text = do
+  sign ← expected (sign_at text)
+  quad ← statement_of allowed sign.1
+  Ok (Some (record { add = sign.0; quad = quad }))
+
+-- what a line states
+unfoldable pub line_of : Allowed → List ℕ → Result (Option Signed) LineKind
+line_of allowed text = if is_comment (skip text) then Ok None else signed_of allowed text

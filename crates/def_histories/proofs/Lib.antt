@@ -1,4 +1,5 @@
 pub mod Appended
+pub mod JobProofs
 pub mod LegalProofs
 pub mod LiveProofs
 pub mod StandingProofs

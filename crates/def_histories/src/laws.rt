@@ -1,4 +1,5 @@
 ghost use Rattle.def_histories.specs.HistoryLaws.{PrefixIsLegal, AllowedIsLegal, DatasetsStay, CommitMakesVersion, PatchLinesInAnyOrder, PatchTextsInAnyOrder, OnlyCommitsMakeVersions, TextNumbersRise, LiveFramesStep, LiveOnceRegistered, GoneOnceRetired, OthersStayLive, AbsentUntilRegistered, PublishedWasCommitted, LiveIsNamed, PublishedIsLast};
+ghost use Rattle.def_histories.specs.Jobs.{FittingBoardsAreVersions, FittingJobsFitOn, TextNumbersAreOne};
 
 /// What a legal history begins with is legal.
 #[tactic(auto, using(crate::proofs::LegalProofs::prefix_is_legal))]
@@ -91,4 +92,19 @@ pub fn live_is_named()
 #[tactic(auto, using(crate::proofs::PublishedProofs::published_is_last))]
 pub fn published_is_last()
     ensures { PublishedIsLast }
+{}
+
+/// A job that fits a history fits each one that it is a prefix of.
+pub fn fitting_jobs_fit_on()
+    ensures { FittingJobsFitOn }
+{}
+
+/// A text number is that of one registration.
+pub fn text_numbers_are_one()
+    ensures { TextNumbersAreOne }
+{}
+
+/// The board of a job that fits a history is of one of its versions, under that version's number.
+pub fn fitting_boards_are_versions()
+    ensures { FittingBoardsAreVersions }
 {}

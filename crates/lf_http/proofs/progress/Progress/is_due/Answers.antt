@@ -1,9 +1,0 @@
-use Rattle.std.proofs.Common.{◌≡◌, length, arith}
-use Rattle.std.proofs.lemmas.Bool.Decides.{nat_tests}
-use Rattle.lf_http.proofs.Found.{empty_read}
-use Rattle.lf_http.proofs.progress.Progress.is_due.Goals as goal
-
-pub returns-then-is_empty-clause-open : goal.returns-then-is_empty-clause-open
-returns-then-is_empty-clause-open c = λ _.
-    let none : length c.args.bytes.now ≡ 0 = grind (arith, nat_tests) in
-    empty_read c.args.bytes.now none

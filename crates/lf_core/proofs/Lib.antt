@@ -6,3 +6,4 @@ pub mod UnorderedProofs
 pub mod QuadLemmas
 pub mod SmallOf
 pub mod Lone
+pub mod LegalSteps

@@ -1,7 +1,7 @@
 ghost use Rattle.std.specs.Prelude.{◌≡◌, true};
 ghost use Rattle.def_histories.specs.Legal.{IsLegal};
+ghost use Rattle.def_histories.specs.LegalProp.{is_legal-prop};
 ghost use Rattle.lf_desk.specs.Accepted.{is_first_frame};
-ghost use Rattle.lf_core.specs.Seat.{history_of, seat_of};
 
 use crate::state::State;
 use lf_base::Memory;
@@ -10,14 +10,17 @@ use lf_model::{CommitErr, FramedNow, Look, RegisterErr};
 use lf_rdf::Patch;
 use std::alloc::Global;
 
-/// One seat alone at a state. Contracts see the seat's number and the state's history.
+/// One seat alone at a state. Contracts see the seat's number and the state's history, which is legal.
 #[derive(Drop)]
 pub struct CoreDesk {
     state: State,
     seat: u64,
+    ghost legal: { IsLegal is_first_frame state } by { is_legal-prop is_first_frame state },
 }
 
 impl CoreDesk {
+    ghost use Rattle.lf_core.specs.Seat.{history_of, seat_of};
+
     /// A seat at a state. It takes no memory.
     pub fn new(state: State, seat: u64) -> CoreDesk
         ensures history { history_of result ≡ state }
@@ -45,35 +48,28 @@ impl Desk for CoreDesk {
     ghost history = { λ desk. desk.state };
 
     fn commit(&mut self, alloc: Global, patch: Patch) -> Result<u64, CommitErr> {
-        let answer = self.state.commit(alloc, self.seat, patch);
-        self.state.history_is_legal();
-        answer
+        self.state.commit(alloc, self.seat, patch)
     }
 
     fn register(&mut self, alloc: Global, name: &str, text: &str) -> Result<bool, RegisterErr> {
-        let answer = self.state.register(alloc, self.seat, name, text);
-        self.state.history_is_legal();
-        answer
+        self.state.register(alloc, self.seat, name, text)
     }
 
     fn retire(&mut self, _alloc: Global, name: &str) -> Result<bool, Memory> {
-        let was_live = self.state.retire(self.seat, name);
-        self.state.history_is_legal();
-        Ok(was_live)
+        Ok(self.state.retire(self.seat, name))
     }
 
     fn newest(&mut self) -> u64 {
-        self.state.history_is_legal();
         self.state.newest_number()
     }
 
     fn look(&mut self, _alloc: Global, name: &str, need: u64) -> Result<Look, Memory> {
-        self.state.history_is_legal();
         self.state.look(name, need)
     }
 
     fn frame_now(&mut self, alloc: Global, name: &str) -> Result<Option<FramedNow>, Memory> {
-        self.state.history_is_legal();
         self.state.frame_now(alloc, name)
     }
+
+    ghost legal = { λ desk. desk.legal };
 }

@@ -1,6 +1,8 @@
 ghost use Rattle.std.specs.Prelude.{◌≡◌, ◌≤◌, [], ℕ, Bool, List};
 ghost use Rattle.def_histories.specs.declared.operation.Operation.{Operation};
 ghost use Rattle.def_histories.specs.History.{commits};
+ghost use Rattle.def_histories.specs.Legal.{IsLegal};
+ghost use Rattle.lf_desk.specs.Accepted.{is_first_frame};
 ghost use Rattle.lf_desk.specs.RegisterAnswer.{register_answer, Answers, registered_by};
 ghost use Rattle.lf_desk.specs.CommitAnswer.{commit_answer, CommitAnswers, committed_by};
 ghost use Rattle.lf_desk.specs.Looks.{Looks, Frames};
@@ -11,9 +13,10 @@ use lf_model::{CommitErr, FramedNow, Look, RegisterErr};
 use lf_rdf::Patch;
 use std::alloc::Global;
 
-/// A caller's place at a history. After each call the history is legal and goes on from the one before. What is new in
-/// it with the seat's number is the operation that the call made, as its last entry. Each answer is a function of the
-/// history without that entry. A refusal makes no operation, and `Memory` may be answered at any time.
+/// A caller's place at a history, which is legal at all times, before the first call too. After each call it goes on from
+/// the one before. What is new in it with the seat's number is the operation that the call made, as its last entry. Each
+/// answer is a function of the history without that entry. A refusal makes no operation, and `Memory` may be answered at
+/// any time.
 pub trait Desk {
     /// No other seat makes operations, and nothing is published by others.
     ghost alone: { Self → Bool };
@@ -73,4 +76,7 @@ pub trait Desk {
             (λ seen. Frames seen name.now result) }
         ensures same_seat { seat self.new ≡ seat self.old }
         ensures same_alone { alone self.new ≡ alone self.old };
+
+    /// The history is legal.
+    ghost legal: { (desk : Self) → IsLegal is_first_frame (history desk) };
 }

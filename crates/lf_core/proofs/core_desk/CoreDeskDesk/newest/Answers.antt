@@ -2,4 +2,4 @@ use Rattle.lf_core.proofs.Lone.{lone_read}
 use Rattle.lf_core.proofs.core_desk.CoreDeskDesk.newest.Goals as goal
 
 pub returns-clause-call : goal.returns-clause-call
-returns-clause-call c = lone_read _ _ _ _ c.history_is_legal.ensures c.newest_number.ensures
+returns-clause-call c = lone_read _ _ _ _ c.args.self.now.legal c.newest_number.ensures

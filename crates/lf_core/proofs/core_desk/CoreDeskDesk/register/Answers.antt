@@ -1,5 +1,13 @@
 use Rattle.lf_core.proofs.Lone.{lone_call}
+use Rattle.lf_core.proofs.LegalSteps.{legal_register}
 use Rattle.lf_core.proofs.core_desk.CoreDeskDesk.register.Goals as goal
 
 pub returns-clause-call : goal.returns-clause-call
-returns-clause-call c = lone_call _ _ _ _ _ _ c.register-answer.ensures.entry c.history_is_legal.ensures c.register-answer.ensures.answer
+returns-clause-call c =
+    lone_call _ _ _ _ _ _ c.register.ensures.entry
+    (legal_register _ _ _ _ _ _ c.args.self.now.legal c.register.ensures.answer c.register.ensures.entry) c.register.ensures.answer
+
+pub invariant_of-self : goal.invariant_of-self
+invariant_of-self c = record {
+  legal = legal_register _ _ _ _ _ _ c.args.self.now.legal c.register.ensures.answer c.register.ensures.entry;
+}

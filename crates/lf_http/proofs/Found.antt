@@ -13,7 +13,7 @@ use Rattle.lf_io.specs.Bytes.{prepended, HasEnded}
 use Rattle.lf_http.specs.declared.head.HeadErr.{HeadErr}
 use Rattle.lf_http.specs.declared.head.HeadErr.TheVariants.{ReadFault, CutShort, TooLarge, BadHead, LengthNeeded, BodyTooLong, Expectation}
 use Rattle.lf_http.specs.Judge.{judged, request_of}
-use Rattle.lf_http.specs.Reading.{LacksHead, IsRefused, IsBeyond}
+use Rattle.lf_http.specs.Reading.{IsOpen, LacksHead, IsRefused, IsBeyond}
 
 -- a head that is no longer than the bytes stands in them
 within : (bytes more front rest : List ℕ) → bytes ++ more ≡ front ++ rest → length front ≤ length bytes
@@ -52,11 +52,11 @@ not_lacking : (bytes more rest : List ℕ) (h : RequestHead) (e : HeadErr)
     → (e ≡ ReadFault → ⊥) → LacksHead bytes (Some more) e → ⊥
 not_lacking bytes more rest h ReadFault reads short few read lacks = read refl
 not_lacking bytes more rest h CutShort reads short few read lacks =
-    lacks.1 h rest (subst (λ (all : List ℕ). ReadsRequest all h rest) (ap (λ (m : List ℕ). bytes ++ m) lacks.2 ∙ append-nil bytes) reads)
+    lacks.1.0 h rest (subst (λ (all : List ℕ). ReadsRequest all h rest) (ap (λ (m : List ℕ). bytes ++ m) lacks.2 ∙ append-nil bytes) reads)
 not_lacking bytes more rest h TooLarge reads short few read lacks = over lacks
   where
-    over : ((length bytes ≡ 16384) × HasNoRequest bytes) ⊎ (RequestExceeds 64 bytes × RequestOverflows 64 bytes) → ⊥
-    over (inl full) = too_long bytes more rest h full.1 (omega (arith, full.0)) reads
+    over : ((length bytes ≡ 16384) × IsOpen bytes) ⊎ (RequestExceeds 64 bytes × RequestOverflows 64 bytes) → ⊥
+    over (inl full) = too_long bytes more rest h full.1.0 (omega (arith, full.0)) reads
     over (inr many) = let more_lines : 64 < length h.fields = many.1 more h rest reads in omega arith
 not_lacking bytes more rest h BadHead reads short few read lacks = lacks more h rest reads
 not_lacking bytes more rest h LengthNeeded reads short few read lacks = lacks
@@ -116,12 +116,12 @@ not_none stream rest (Some more) h is ended reads = found-none stream rest h (so
 -- beside a whole head there is no cause to answer that there is none
 not_beside : (bytes rest : List ℕ) (left : Option (List ℕ)) (h : RequestHead) (e : HeadErr)
     → ReadsRequest bytes h rest → length h.fields ≤ 64 → LacksHead bytes left e → ⊥
-not_beside bytes rest left h ReadFault reads few lacks = lacks h rest reads
-not_beside bytes rest left h CutShort reads few lacks = lacks.1 h rest reads
+not_beside bytes rest left h ReadFault reads few lacks = lacks.0 h rest reads
+not_beside bytes rest left h CutShort reads few lacks = lacks.1.0 h rest reads
 not_beside bytes rest left h TooLarge reads few lacks = over lacks
   where
-    over : ((length bytes ≡ 16384) × HasNoRequest bytes) ⊎ (RequestExceeds 64 bytes × RequestOverflows 64 bytes) → ⊥
-    over (inl full) = full.1 h rest reads
+    over : ((length bytes ≡ 16384) × IsOpen bytes) ⊎ (RequestExceeds 64 bytes × RequestOverflows 64 bytes) → ⊥
+    over (inl full) = full.1.0 h rest reads
     over (inr many) =
         let more_lines : 64 < length h.fields =
         many.1 [] h rest (subst (λ (all : List ℕ). ReadsRequest all h rest) (sym (append-nil bytes)) reads) in omega arith
@@ -151,16 +151,12 @@ pub nothing_taken : (bytes : List ℕ) (left : Option (List ℕ)) → Some [] �
 nothing_taken bytes None is = absurd (none-some [] (sym is))
 nothing_taken bytes (Some more) is = no_bytes bytes more (some-injective [] (bytes ++ more) is)
 
-pub empty_read : (bytes : List ℕ) → length bytes ≡ 0 → HasNoRequest bytes
-empty_read [] is = nothing_read
-empty_read (b ∷ bytes) is = absurd (omega arith)
-
 -- where a head stands in the stream, want of a head is answered for its length or its lines alone
 only_large : (bytes more rest : List ℕ) (h : RequestHead) (e : HeadErr)
     → ReadsRequest (bytes ++ more) h rest → (e ≡ ReadFault → ⊥) → LacksHead bytes (Some more) e → e ≡ TooLarge
 only_large bytes more rest h ReadFault reads read lacks = absurd (read refl)
 only_large bytes more rest h CutShort reads read lacks =
-    absurd (lacks.1 h rest
+    absurd (lacks.1.0 h rest
     (subst (λ (all : List ℕ). ReadsRequest all h rest) (ap (λ (m : List ℕ). bytes ++ m) lacks.2 ∙ append-nil bytes) reads))
 only_large bytes more rest h TooLarge reads read lacks = refl
 only_large bytes more rest h BadHead reads read lacks = absurd (lacks more h rest reads)
@@ -178,8 +174,8 @@ large_is stream rest bytes (Some more) h e is reads read lacks =
 -- beside a whole head, want of a head is answered for its lines alone
 pub many_lines : (bytes rest : List ℕ) (left : Option (List ℕ)) (h : RequestHead) (e : HeadErr)
     → ReadsRequest bytes h rest → LacksHead bytes left e → e ≡ TooLarge
-many_lines bytes rest left h ReadFault reads lacks = absurd (lacks h rest reads)
-many_lines bytes rest left h CutShort reads lacks = absurd (lacks.1 h rest reads)
+many_lines bytes rest left h ReadFault reads lacks = absurd (lacks.0 h rest reads)
+many_lines bytes rest left h CutShort reads lacks = absurd (lacks.1.0 h rest reads)
 many_lines bytes rest left h TooLarge reads lacks = refl
 many_lines bytes rest left h BadHead reads lacks =
     absurd (lacks [] h rest (subst (λ (all : List ℕ). ReadsRequest all h rest) (sym (append-nil bytes)) reads))

@@ -1,7 +1,6 @@
 pub mod Bodies
 pub mod Fields
 pub mod Judge
-pub mod Lines
 pub mod Reading
 pub mod Readings
 pub mod Reply

@@ -1,7 +1,7 @@
 -- How a head is read from the front of a stream.
-use Rattle.std.specs.Prelude.{◌^◌, ◌+◌, ◌-◌, ◌≡◌, ◌<◌, ◌⊎◌, List, [], ℕ, length, drop, codes, nat_eq, Option, Some, Result, Ok, Err, if◌then◌else◌}
+use Rattle.std.specs.Prelude.{◌^◌, ◌+◌, ◌-◌, ◌≡◌, ◌<◌, ◌≤◌, ◌⊎◌, List, [], ◌++◌, ℕ, length, drop, codes, nat_eq, Option, Some, Result, Ok, Err, if◌then◌else◌}
 use Rattle.std.specs.List.{starts_with}
-use Rattle.httparse.specs.Grammar.{RequestHead, print_request, ReadsRequest, HasNoRequest, NeverHasRequest}
+use Rattle.httparse.specs.Grammar.{RequestHead, print_request, ReadsRequest, HasNoRequest, NeverHasRequest, MayBecomeRequest}
 use Rattle.httparse.specs.Spans.{RequestOverflows, RequestExceeds}
 use Rattle.lf_io.specs.Bytes.{HasEnded}
 use Rattle.lf_io.specs.Faults.{risen}
@@ -22,12 +22,26 @@ most_lines = 64
 abbrev pub IsBeyond : RequestHead → Type 0
 IsBeyond h = (longest_head < length (print_request h)) ⊎ (most_lines < length h.fields)
 
+-- the most bytes that are read at once
+abbrev pub longest_piece : ℕ
+longest_piece = 4096
+
+-- the bytes hold no head, and may still become one: some bytes can follow that make one of them, or they end in a target
+abbrev pub IsOpen : List ℕ → Type 0
+IsOpen bytes = HasNoRequest bytes × MayBecomeRequest bytes
+
+-- Behind the bytes that were pending more were read, piece by piece, only where those before each piece might still become a head.
+abbrev pub ReadsOn : List ℕ → List ℕ → Type 0
+ReadsOn pending bytes =
+    (bytes ≡ pending)
+    ⊎ ((more : List ℕ) × (last : List ℕ) × (bytes ≡ (pending ++ more) ++ last) × (length last ≤ longest_piece) × IsOpen (pending ++ more))
+
 -- why no head within the limits stands before what is left, where these bytes came
 abbrev pub LacksHead : List ℕ → Option (List ℕ) → HeadErr → Type 0
-LacksHead bytes left ReadFault = HasNoRequest bytes
-LacksHead bytes left CutShort = (bytes ≡ [] → ⊥) × HasNoRequest bytes × HasEnded left × (length bytes < longest_head)
+LacksHead bytes left ReadFault = IsOpen bytes
+LacksHead bytes left CutShort = (bytes ≡ [] → ⊥) × IsOpen bytes × HasEnded left × (length bytes < longest_head)
 LacksHead bytes left TooLarge =
-    ((length bytes ≡ longest_head) × HasNoRequest bytes) ⊎ (RequestExceeds most_lines bytes × RequestOverflows most_lines bytes)
+    ((length bytes ≡ longest_head) × IsOpen bytes) ⊎ (RequestExceeds most_lines bytes × RequestOverflows most_lines bytes)
 LacksHead bytes left BadHead = NeverHasRequest bytes
 LacksHead bytes left LengthNeeded = ⊥
 LacksHead bytes left BodyTooLong = ⊥

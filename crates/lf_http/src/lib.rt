@@ -9,7 +9,6 @@ mod judge;
 mod law;
 mod message;
 mod number;
-mod progress;
 mod reading;
 mod reply;
 #[cfg(test)]

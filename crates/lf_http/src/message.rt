@@ -3,7 +3,7 @@ ghost use Rattle.std.specs.String.{string_capacity};
 ghost use Rattle.httparse.specs.Grammar.{RequestHead, IsRequestHead, ReadsRequest, print_request};
 ghost use Rattle.lf_io.specs.Bytes.{prepended, HasEnded};
 ghost use Rattle.lf_http.specs.Judge.{judged, request_of};
-ghost use Rattle.lf_http.specs.Reading.{IsRefused, IsBeyond, as_read, count_after_head, name_of, to_come};
+ghost use Rattle.lf_http.specs.Reading.{IsRefused, IsBeyond, ReadsOn, as_read, count_after_head, name_of, to_come};
 
 use crate::buffers::{Buffers, drop_front};
 use crate::field::bytes_of;
@@ -35,10 +35,10 @@ fn keep_name(name: &mut String, target: &[u8])
 
 /// Reads the next head, and takes no memory (RFC 9112, section 2.2).
 ///
-/// A head costs time linear in its bytes, however the source cuts its pieces. Each byte is looked at once for line ends. The
-/// bytes are parsed where an empty line behind a line may have ended the head, where they are more than twice as many as at
-/// the last parse, and where no more are taken, so that all parses together read at most some four times their number. The
-/// bytes behind the head, which are at most one piece, are moved to the front.
+/// The bytes are parsed after every piece that comes, so that bytes that no head continues are refused at once. A head costs
+/// its bytes for each of its pieces, which are of at most 4,096 bytes: for one that comes whole the time is linear in its
+/// length, for one of 16,384 bytes that comes byte by byte some 134 million steps. The bytes behind the head, which are at
+/// most one piece, are moved to the front.
 pub fn read_head<S: Source>(source: &mut S, buffers: &mut Buffers) -> Result<Option<Head>, HeadErr>
     // An accepted head, with the empty lines before it, stood first in the stream, and is gone from it.
     ensures head { IfOk result (λ o. IfSome o (λ head. (h : RequestHead) × IsRequestHead h
@@ -57,6 +57,10 @@ pub fn read_head<S: Source>(source: &mut S, buffers: &mut Buffers) -> Result<Opt
     // After a refusal the bytes stay.
     ensures refused { IfErr result (λ e. IsRefused buffers.new.pending (S.left source.new) e) }
     ensures unused { OnErr result (prepended buffers.old.pending (S.left source.old) ≡ prepended buffers.new.pending (S.left source.new)) }
+
+    // More was read only where the bytes before each piece might still become a head, so that `BadHead` comes at the first
+    // piece with which they can't.
+    ensures onward { OnErr result (ReadsOn buffers.old.pending buffers.new.pending) }
 
     // Where they hold a whole head, its refusal is its own.
     ensures exact { (h : RequestHead) (rest : List ℕ) → ReadsRequest buffers.new.pending h rest → length h.fields ≤ 64

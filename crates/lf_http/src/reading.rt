@@ -1,15 +1,12 @@
 ghost use Rattle.std.specs.Prelude.{◌≡◌, ◌+◌, ◌<◌, ◌≤◌, ℕ, List, Option, [], length, take, vec_capacity, Ok, None, IfOk, IfErr, IfSome, OnOk, OnErr};
-ghost use Rattle.httparse.specs.Grammar.{RequestHead, ReadsRequest, HasNoRequest};
+ghost use Rattle.httparse.specs.Grammar.{RequestHead, ReadsRequest};
 ghost use Rattle.httparse.specs.Spans.{IsRequestOf, IsRequestWithin};
 ghost use Rattle.lf_io.specs.Bytes.{prepended, HasEnded};
 ghost use Rattle.lf_io.specs.Faults.{count_after};
-ghost use Rattle.lf_http.specs.Reading.{LacksHead, count_after_head, to_come};
-ghost use Rattle.lf_http.specs.Lines.{line_from};
-ghost use Rattle.lf_http.specs.declared.progress.Line.TheVariants.{Before};
+ghost use Rattle.lf_http.specs.Reading.{IsOpen, LacksHead, ReadsOn, count_after_head, to_come};
 
 use crate::buffers::LONGEST_HEAD;
 use crate::head::HeadErr;
-use crate::progress::Progress;
 use httparse::spans::{HeaderSpan, RequestSpans, parse_request};
 use httparse::{Error, Status};
 use lf_io::{Failed, Source};
@@ -33,6 +30,7 @@ pub(crate) fn read_more<S: Source>(
     ensures capacity { 16384 ≤ vec_capacity pending.new }
     ensures kept { OnOk result (take (length pending.old.items) pending.new.items ≡ pending.old.items) }
     ensures longer { IfOk result (λ n. length pending.new.items ≡ length pending.old.items + n) }
+    ensures piecewise { IfOk result (λ n. n ≤ 4096) }
     ensures end { IfOk result (λ n. n ≡ 0 → HasEnded (S.left source.new)) }
     ensures nothing { IfOk result (λ n. n ≡ 0 → pending.new.items ≡ pending.old.items) }
     ensures same { OnErr result (pending.new.items ≡ pending.old.items) }
@@ -49,82 +47,49 @@ pub(crate) fn read_more<S: Source>(
     }
 }
 
-// The head that the bytes begin with, if it is whole.
+// The head that the bytes begin with, if it is whole. None where they may still become one.
 fn parse(bytes: &[u8], lines: &mut [HeaderSpan]) -> Result<Option<RequestSpans>, HeadErr>
-    requires { length lines.old ≡ 64 }
+    requires lines { length lines.old ≡ 64 }
+    requires within { length bytes.now ≤ 16384 }
     ensures room { length lines.new ≡ 64 }
     ensures whole { IfOk result (λ o. IfSome o (λ spans. IsRequestOf bytes.now lines.new spans)) }
     ensures within { IfOk result (λ o. IfSome o (λ spans. IsRequestWithin bytes.now lines.new spans)) }
-    ensures open { result ≡ Ok None → HasNoRequest bytes.now }
+    ensures open { result ≡ Ok None → IsOpen bytes.now }
+    ensures more { result ≡ Ok None → length bytes.now < 16384 }
     ensures refused { (left : Option (List ℕ)) → IfErr result (λ e. LacksHead bytes.now left e) }
+    ensures some { OnErr result (0 < length bytes.now) }
     ensures unfailed { (count : ℕ) → count_after_head count result ≡ count }
 {
+    if bytes.is_empty() {
+        return Ok(None);
+    }
     match parse_request(bytes, lines) {
         Ok(Status::Complete(spans)) => Ok(Some(spans)),
-        Ok(Status::Partial) => Ok(None),
+        Ok(Status::Partial) => {
+            if bytes.len() < LONGEST_HEAD {
+                Ok(None)
+            } else {
+                Err(HeadErr::TooLarge)
+            }
+        }
         Err(Error::TooManyHeaders) => Err(HeadErr::TooLarge),
         Err(_) => Err(HeadErr::BadHead),
     }
 }
 
-// The same, looked for only where `Progress` says so.
-fn parse_if_due(
-    progress: &mut Progress,
-    bytes: &[u8],
-    lines: &mut [HeaderSpan],
-) -> Result<Option<RequestSpans>, HeadErr>
-    requires lines { length lines.old ≡ 64 }
-    requires within { length bytes.now ≤ 16384 }
-    requires looked { progress.old.looked ≤ length bytes.now }
-    requires parsed { progress.old.parsed ≤ 16384 }
-    requires line { progress.old.line ≡ line_from Before (take progress.old.looked bytes.now) }
-    ensures looked { progress.new.looked ≡ length bytes.now }
-    ensures parsed { progress.new.parsed ≤ 16384 }
-    ensures line { progress.new.line ≡ line_from Before bytes.now }
-    ensures room { length lines.new ≡ 64 }
-    ensures whole { IfOk result (λ o. IfSome o (λ spans. IsRequestOf bytes.now lines.new spans)) }
-    ensures within { IfOk result (λ o. IfSome o (λ spans. IsRequestWithin bytes.now lines.new spans)) }
-    ensures more { result ≡ Ok None → length bytes.now < 16384 }
-    ensures open { result ≡ Ok None → HasNoRequest bytes.now }
-    ensures refused { (left : Option (List ℕ)) → IfErr result (λ e. LacksHead bytes.now left e) }
-    ensures some { OnErr result (0 < length bytes.now) }
-    ensures unfailed { (count : ℕ) → count_after_head count result ≡ count }
-{
-    if !progress.is_due(bytes) {
-        return Ok(None);
-    }
-    match parse(bytes, lines) {
-        Err(e) => Err(e),
-        Ok(Some(spans)) => Ok(Some(spans)),
-        Ok(None) => {
-            if bytes.len() >= LONGEST_HEAD {
-                Err(HeadErr::TooLarge)
-            } else {
-                Ok(None)
-            }
-        }
-    }
-}
-
 // What is answered where the input has ended.
-fn end_of_input(pending: &[u8], lines: &mut [HeaderSpan]) -> Result<Option<RequestSpans>, HeadErr>
-    requires lines { length lines.old ≡ 64 }
+fn end_of_input(pending: &[u8]) -> Result<Option<RequestSpans>, HeadErr>
+    requires open { IsOpen pending.now }
     requires short { length pending.now < 16384 }
-    ensures room { length lines.new ≡ 64 }
-    ensures whole { IfOk result (λ o. IfSome o (λ spans. IsRequestOf pending.now lines.new spans)) }
-    ensures within { IfOk result (λ o. IfSome o (λ spans. IsRequestWithin pending.now lines.new spans)) }
-    ensures none { result ≡ Ok None → pending.now ≡ [] }
+    ensures none { IfOk result (λ o. (o ≡ None) × (pending.now ≡ [])) }
     ensures refused { (left : Option (List ℕ)) → HasEnded left → IfErr result (λ e. LacksHead pending.now left e) }
     ensures some { OnErr result (pending.now ≡ [] → ⊥) }
     ensures unfailed { (count : ℕ) → count_after_head count result ≡ count }
 {
     if pending.is_empty() {
-        return Ok(None);
-    }
-    match parse(pending, lines) {
-        Err(e) => Err(e),
-        Ok(Some(spans)) => Ok(Some(spans)),
-        Ok(None) => Err(HeadErr::CutShort),
+        Ok(None)
+    } else {
+        Err(HeadErr::CutShort)
     }
 }
 
@@ -148,14 +113,14 @@ pub(crate) fn next_head<S: Source>(
     ensures refused { IfErr result (λ e. LacksHead pending.new.items (S.left source.new) e) }
     ensures unread { (h : RequestHead) (rest : List ℕ) → ReadsRequest pending.old.items h rest
         → (source.new ≡ source.old) × (pending.new.items ≡ pending.old.items) }
+    ensures onward { ReadsOn pending.old.items pending.new.items }
     ensures some { IfErr result (λ e. (e ≡ HeadErr.ReadFault → ⊥) → pending.new.items ≡ [] → ⊥) }
     ensures fewer { to_come (S.taken source.new) pending.new.items ≤ to_come (S.taken source.old) pending.old.items }
     ensures cause { S.faults source.new ≡ count_after_head (S.faults source.old) result }
 {
     let mut piece = [0u8; PIECE];
-    let mut progress = Progress::new();
     loop {
-        match parse_if_due(&mut progress, pending, lines) {
+        match parse(pending, lines) {
             Err(e) => return Err(e),
             Ok(Some(spans)) => return Ok(Some(spans)),
             Ok(None) => (),
@@ -164,7 +129,7 @@ pub(crate) fn next_head<S: Source>(
             Err(Failed) => return Err(HeadErr::ReadFault),
             Ok(count) => {
                 if count == 0 {
-                    return end_of_input(pending, lines);
+                    return end_of_input(pending);
                 }
             }
         }

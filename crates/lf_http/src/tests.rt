@@ -383,6 +383,23 @@ fn a_failed_read_is_answered_where_it_comes(rt: HostRuntime) -> Result<(), Fail>
     Ok(())
 }
 
+const BAD: &[u8] = b"GET /version HTTP/1.1\r\nBad Header: x\r\n";
+
+// The call that would read on fails, and isn't made where no head continues the bytes.
+#[test]
+fn a_bad_head_is_refused_at_its_piece(rt: HostRuntime) -> Result<(), Fail> {
+    let alloc = rt.alloc();
+    for (piece, call, wanted) in [
+        (23usize, 1u64, HeadErr::ReadFault),
+        (23, 2, HeadErr::BadHead),
+        (1, 26, HeadErr::ReadFault),
+        (1, 27, HeadErr::BadHead),
+    ] {
+        assert_eq!(rt; message_of(alloc, BAD, piece, call)?, Answer::Head(wanted));
+    }
+    Ok(())
+}
+
 #[test]
 fn a_message_cut_at_each_byte_is_cut_short(rt: HostRuntime) -> Result<(), Fail> {
     let alloc = rt.alloc();

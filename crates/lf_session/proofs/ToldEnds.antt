@@ -3,7 +3,7 @@ use Rattle.std.proofs.Common.{◌≡◌, refl, sym, ◌∙◌, ap, subst, arith,
 use Rattle.std.proofs.lemmas.List.{append-nil, length-append}
 use Rattle.std.proofs.lemmas.List.Elements.{All-head, All-nil, All-cons}
 use Rattle.std.specs.Char.{encode_utf8}
-use Rattle.httparse.specs.Grammar.{RequestHead, IsRequestHead, ReadsRequest, HasNoRequest, print_request, is_token_byte, is_uri_byte, IsField, lf}
+use Rattle.httparse.specs.Grammar.{RequestHead, IsRequestHead, ReadsRequest, print_request, is_token_byte, is_uri_byte, IsField, lf}
 use Rattle.httparse.specs.Spans.{RequestOverflows, RequestExceeds}
 use Rattle.httparse.proofs.GrammarLemmas.{request_unique}
 use Rattle.lf_io.specs.Bytes.{HasEnded}
@@ -11,7 +11,7 @@ use Rattle.lf_http.specs.declared.head.Head.{Head}
 use Rattle.lf_http.specs.declared.head.HeadErr.{HeadErr}
 use Rattle.lf_http.specs.declared.head.HeadErr.TheVariants as h
 use Rattle.lf_http.specs.Judge.{Request, request_of, judged, is_bad, needs_length, told_length, has_line, longest_body}
-use Rattle.lf_http.specs.Reading.{LacksHead, IsRefused}
+use Rattle.lf_http.specs.Reading.{IsOpen, LacksHead, IsRefused}
 use Rattle.lf_http.proofs.Found.{nothing_read, found-refused}
 use Rattle.lf_session.specs.Replies.{Reply, refusal}
 use Rattle.lf_session.specs.Session.{IsBodyCut}
@@ -45,7 +45,7 @@ nothing_lacks h.ReadFault reply is lacks = cc
 nothing_lacks h.CutShort reply is lacks = lacks.0 refl
 nothing_lacks h.TooLarge reply is lacks = over lacks
   where
-    over : ((length {A = ℕ} [] ≡ 16384) × HasNoRequest []) ⊎ (RequestExceeds 64 [] × RequestOverflows 64 []) → ⊥
+    over : ((length {A = ℕ} [] ≡ 16384) × IsOpen []) ⊎ (RequestExceeds 64 [] × RequestOverflows 64 []) → ⊥
     over (inl full) = no_bytes 0 refl full.0
     over (inr many) = let lines : 64 < 0 = many.1 (print_request shortest) shortest [] shortest-read in omega arith
 nothing_lacks h.BadHead reply is lacks = lacks (print_request shortest) shortest [] shortest-read
@@ -185,7 +185,7 @@ tail_cut no_tail part rest more tail told (inr cut) =
 tail_cut (cut_message m lacking) part rest more tail told why = tt
 tail_cut (cut_head k lacking) part rest more tail told why = tt
 tail_cut (refused_head k e) part rest more tail told (inl lacks) =
-    lacks.1 k tail.0 (subst (λ (p : List ℕ). ReadsRequest p k tail.0) (all-read part rest more told lacks.2) tail.1)
+    lacks.1.0 k tail.0 (subst (λ (p : List ℕ). ReadsRequest p k tail.0) (all-read part rest more told lacks.2) tail.1)
 tail_cut (refused_head k e) part rest more tail told (inr cut) =
     let same = request_unique part cut.0.sent k cut.0.body tail.0 (cut.0.is_head, all-read part rest more told cut.1 ∙ cut.0.spelled) tail.1 in
     no_both (judged (request_of k)) cut.0.head e (ap (λ (r : RequestHead). judged (request_of r)) (sym same.0) ∙ cut.0.accepted) tail.4
@@ -202,7 +202,7 @@ none_refused m ms part rest more e reply one told is why =
 none_lacks : (m : Message) (ms : List Message) (part rest more : List ℕ) → IsWholeMessage m
     → all_bytes (m ∷ ms) ++ part ≡ rest ++ more → LacksHead rest (Some more) h.CutShort → ⊥
 none_lacks m ms part rest more one told lacks =
-    lacks.1 m.sent (m.body ++ (all_bytes ms ++ part))
+    lacks.1.0 m.sent (m.body ++ (all_bytes ms ++ part))
     (subst (λ (r : List ℕ). ReadsRequest r m.sent (m.body ++ (all_bytes ms ++ part)))
     (all-read (all_bytes (m ∷ ms) ++ part) rest more told lacks.2) (first_reads m ms part one))
 

@@ -261,3 +261,9 @@ returns-clause-cut g c =
     (ap (λ (o : Option (List ℕ)). prepended c.buffers.inside.pending.items o) (sym tells) ∙ c.next_head.ensures.bytes
     ∙ ap (λ (bytes : List ℕ). prepended bytes left) found.1.reads.1)
     found.1.reads.0 reads lacks))
+
+pub returns-in-Err-clause-onward : goal.returns-in-Err-clause-onward
+returns-in-Err-clause-onward g c = rw (← c.buffers.view_is) c.next_head.ensures.onward
+
+pub returns-in-Err-judge-clause-onward : goal.returns-in-Err-judge-clause-onward
+returns-in-Err-judge-clause-onward g c = rw (← c.buffers.view_is) c.next_head.ensures.onward

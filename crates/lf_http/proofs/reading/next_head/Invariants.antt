@@ -1,9 +1,7 @@
-use Rattle.std.proofs.Common.{◌≡◌, ◌≤◌, ℕ, List, length, take, vec_capacity, ◌-◌}
+use Rattle.std.proofs.Common.{◌≡◌, ◌≤◌, ℕ, List, length, vec_capacity, ◌-◌}
 use Rattle.httparse.specs.Grammar.{RequestHead, ReadsRequest}
 use Rattle.lf_io.specs.Bytes.{prepended}
-use Rattle.lf_http.specs.Lines.{line_from}
-use Rattle.lf_http.specs.Reading.{to_come}
-use Rattle.lf_http.specs.declared.progress.Line.TheVariants.{Before}
+use Rattle.lf_http.specs.Reading.{ReadsOn, to_come}
 use Rattle.lf_http.proofs.reading.next_head.Given as goal
 
 abbrev pub invariant-loop-e : goal.invariant-loop-e
@@ -15,9 +13,7 @@ invariant-loop-e g l =
     × (length l.piece ≡ 4096)
     × (g.S.Source.faults l.source ≡ g.S.Source.faults l.initial.source)
     × (to_come (g.S.Source.taken l.source) l.pending.items ≤ to_come (g.S.Source.taken l.initial.source) l.initial.pending.items)
-    × (l.progress.looked ≤ length l.pending.items)
-    × (l.progress.parsed ≤ 16384)
-    × (l.progress.line ≡ line_from Before (take l.progress.looked l.pending.items))
+    × ReadsOn l.initial.pending.items l.pending.items
     × ((h : RequestHead) (rest : List ℕ) → ReadsRequest l.initial.pending.items h rest
     → (l.source ≡ l.initial.source) × (l.pending.items ≡ l.initial.pending.items))
 

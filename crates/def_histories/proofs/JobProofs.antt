@@ -85,8 +85,7 @@ text_numbers_are_one history number name name2 text text2 one two =
 version_of_prefix : (first all : List (List Signed)) → IsPrefix first all
     → (length first ≤ length all) × (at_version first (length first) ≡ at_version all (length first))
 version_of_prefix first all (rest, is) =
-    let long : length all ≡ length first + length rest = ap length is ∙ length-append first rest in
-    (
+    let long : length all ≡ length first + length rest = ap length is ∙ length-append first rest in (
       omega arith,
       ap (λ (w : List (List Signed)). after_all [] w)
           (sym (take-append-le (length first) first rest (omega arith)) ∙ ap (λ (w : List (List Signed)). take (length first) w) (sym is)),

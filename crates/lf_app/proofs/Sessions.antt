@@ -1,28 +1,14 @@
 -- A stream that is served from the empty history on has the headline.
-use Rattle.std.proofs.Common.{◌≡◌, ◌∙◌, refl, sym, ap, subst, Option, List, [], ◌∷◌, ◌++◌, ℕ, Bool, true, false}
-use Rattle.std.proofs.lemmas.Bool.{false≢true}
+use Rattle.std.proofs.Common.{◌≡◌, refl, subst, Option, List, [], ℕ, Bool, true}
 use Rattle.def_histories.specs.declared.operation.Operation.{Operation}
-use Rattle.def_histories.specs.Legal.{IsLegal}
 use Rattle.lf_desk.specs.Accepted.{is_first_frame}
 use Rattle.lf_session.specs.declared.ended.Ended.{Ended}
 use Rattle.lf_session.specs.declared.ended.Ended.TheVariants as ended
 use Rattle.lf_session.specs.Served.{Told, IsServed}
+use Rattle.lf_session.proofs.EmptyHistory.{empty_is_legal}
 use Rattle.lf_session.proofs.HeadlineProofs.{sessions_hold}
 use Rattle.lf_session.proofs.Streams.{not_begun}
 use Rattle.lf_app.specs.Sessions.{session_seat, RunsSession}
-
-is_empty : List Operation → Bool
-is_empty [] = true
-is_empty (entry ∷ rest) = false
-
-not_empty : (before : List Operation) (entry : Operation) (rest : List Operation) → is_empty (before ++ entry ∷ rest) ≡ false
-unfolding is_empty
-not_empty [] entry rest = refl
-not_empty (first ∷ before) entry rest = refl
-
-pub empty_is_legal : IsLegal is_first_frame []
-unfolding is_empty
-empty_is_legal before entry rest e = absurd (false≢true (sym (not_empty before entry rest) ∙ sym (ap is_empty e)))
 
 pub runs_session : (seat : ℕ) (alone : Bool) (before after : List Operation) (told : Told) (end : Ended)
     → seat ≡ session_seat → alone ≡ true → before ≡ [] → IsServed alone seat before after told end → RunsSession told end
@@ -36,11 +22,11 @@ runs_session seat alone before after told end is_seat is_alone starts served =
         record {
           after = after;
           served = s;
-          headline = sessions_hold true session_seat s.bytes s.written told.left_after [] after end s.xs s.last empty_is_legal s.session;
+          headline = sessions_hold true session_seat s.bytes s.written told.left_after [] after end s.xs s.last s.session;
         }
 
 pub runs_nothing : (left held : Option (List ℕ))
     → RunsSession record { left_before = left; left_after = left; held_before = held; held_after = held } ended.Memory
 runs_nothing left held =
     runs_session session_seat true [] [] record { left_before = left; left_after = left; held_before = held; held_after = held } ended.Memory
-    refl refl refl (not_begun true session_seat [] left held)
+    refl refl refl (not_begun true session_seat [] left held (empty_is_legal is_first_frame))

@@ -8,7 +8,7 @@ use Rattle.lf_session.specs.Headline.{IsHeadline, answered}
 
 -- the number of the seat
 abbrev pub session_seat : ℕ
-session_seat = 1
+session_seat = 0
 
 -- What was read and sent is a session, and its caller can trust the documents, each of one version that was committed and no
 -- older than any that it had seen.

@@ -9,7 +9,7 @@ use lf_session::{Ended, serve_stream};
 use std::alloc::Global;
 
 /// The number of the seat.
-const SEAT: u64 = 1;
+const SEAT: u64 = 0;
 
 #[tactic(auto, using(crate::proofs::Sessions::runs_nothing, crate::proofs::Sessions::runs_session))]
 /// Serves one stream from the empty history on.

@@ -27,6 +27,7 @@ use Rattle.lf_desk.specs.Accepted.{is_first_frame, most_first_bytes}
 use Rattle.lf_desk.specs.Seats.{IsExtended}
 use Rattle.lf_session.specs.ReplyCases.{replies_open}
 use Rattle.lf_session.specs.Exchanges.{IsExchange, messages, answers}
+use Rattle.lf_session.proofs.EmptyHistory.{empty_is_legal}
 use Rattle.lf_session.specs.FirstSession.{FirstSession, first_input, first_output, first_history, one_commit, patch, field, request_head, commit_exchange, register_exchange, look_exchange, refresh_exchange, first_exchanges, framed_now}
 
 -- ---- the heads
@@ -76,15 +77,15 @@ refresh-head = a_head (codes "GET") (codes "/frames/a") _ (omega arith) refl (om
 
 -- ---- the histories
 
-pub as_it_was : (history : List Operation) → IsExtended true 1 history history
+pub as_it_was : (history : List Operation) → IsExtended true 0 history history
 as_it_was history = record { more = []; follows = sym (append-nil history); others = refl; lone = λ _. refl }
 
 commit-allowed : IsCommit [] 32 1
 unfolding most_quads most_commits most_text_bytes
 commit-allowed = record { counted = omega arith; sized = omega arith; held = omega arith }
 
-commit-legal : IsLegal is_first_frame [] → IsLegal is_first_frame one_commit
-commit-legal legal = allowed_is_legal is_first_frame [] (entry.Commit 1 patch) legal commit-allowed
+commit-legal : IsLegal is_first_frame one_commit
+commit-legal = allowed_is_legal is_first_frame [] (entry.Commit 0 patch) (empty_is_legal is_first_frame) commit-allowed
 
 frame-text : is_first_frame (codes "{}") ≡ true
 unfolding is_first_frame frame_at body_at after_byte
@@ -102,8 +103,9 @@ register-allowed = record {
   sized = omega arith;
 }
 
-register-legal : IsLegal is_first_frame one_commit → IsLegal is_first_frame first_history
-register-legal legal = allowed_is_legal is_first_frame one_commit (entry.Register 1 (codes "a") (codes "{}")) legal register-allowed
+register-legal : IsLegal is_first_frame first_history
+register-legal =
+    allowed_is_legal is_first_frame one_commit (entry.Register 0 (codes "a") (codes "{}")) commit-legal register-allowed
 
 -- ---- the exchanges
 
@@ -129,7 +131,7 @@ stated = (
   refl,
 )
 
-commit-is : IsExchange true 1 0 [] commit_exchange
+commit-is : IsExchange true 0 0 [] commit_exchange
 unfolding print_request method_of target_of trim_ows most_commits most_quads most_text_bytes most_first_bytes xsd_string rdf_type
 commit-is = record {
   is_head = commit-head;
@@ -153,7 +155,7 @@ commit-is = record {
   );
 }
 
-register-is : IsExchange true 1 1 one_commit register_exchange
+register-is : IsExchange true 0 1 one_commit register_exchange
 unfolding print_request method_of target_of trim_ows most_frame_bytes most_frames most_registrations most_text_bytes most_name most_first_bytes is_first_frame frame_at body_at after_byte encode_utf8
 register-is = record {
   is_head = register-head;
@@ -167,7 +169,7 @@ register-is = record {
   answered = (refl, (Ok true, inl ((codes "{}", (refl, refl)), refl), refl, refl));
 }
 
-look-is : IsExchange true 1 1 first_history look_exchange
+look-is : IsExchange true 0 1 first_history look_exchange
 unfolding print_request method_of target_of trim_ows
 look-is = record {
   is_head = look-head;
@@ -177,11 +179,11 @@ look-is = record {
   whole = refl;
   came = as_it_was first_history;
   went = as_it_was first_history;
-  legal = λ legal. legal;
+  legal = register-legal;
   answered = (refl, refl, (Ok (looked.Pending None 1), (registered (codes "a") 1 (codes "{}"), refl, refl, refl, refl), refl));
 }
 
-refresh-is : IsExchange true 1 1 first_history refresh_exchange
+refresh-is : IsExchange true 0 1 first_history refresh_exchange
 unfolding print_request method_of target_of trim_ows
 refresh-is = record {
   is_head = refresh-head;
@@ -191,7 +193,7 @@ refresh-is = record {
   whole = refl;
   came = as_it_was first_history;
   went = as_it_was first_history;
-  legal = λ legal. legal;
+  legal = register-legal;
   answered = (
     refl,
     (
@@ -216,6 +218,7 @@ pub first_session : FirstSession
 first_session = record {
   rest = [];
   sent = [];
+  started = empty_is_legal is_first_frame;
   chain = (commit-is, refl, (register-is, refl, (look-is, refl, (refresh-is, refl, tt))));
   read = read;
   wrote = wrote;

@@ -1,6 +1,7 @@
--- What a seat's requests made are its own operations, and what others made isn't.
-use Rattle.std.proofs.Common.{◌≡◌, refl, sym, ◌∙◌, ap, List, [], ◌++◌, inl, inr, ℕ, nat_eq, Bool, true, false, Result, Ok, Err}
-use Rattle.std.proofs.lemmas.Bool.{eq-eqb}
+-- What a seat's requests made is of its number or a publication, and what others made isn't of its number.
+use Rattle.std.proofs.Common.{◌≡◌, refl, sym, ◌∙◌, ap, subst, List, [], ◌∷◌, ◌++◌, inl, inr, ℕ, nat_eq, Bool, true, false, Result, Ok, Err}
+use Rattle.std.specs.List.{list_all}
+use Rattle.std.proofs.lemmas.Bool.{eq-eqb, and_from, and_parts}
 use Rattle.std.proofs.lemmas.List.{append-nil}
 use Rattle.std.proofs.lemmas.List.Elements.{filter-append}
 use Rattle.lf_base.specs.declared.memory.Memory.{Memory}
@@ -11,7 +12,7 @@ use Rattle.def_histories.specs.declared.operation.Operation.{Operation}
 use Rattle.lf_desk.specs.CommitAnswer.{committed_by}
 use Rattle.lf_desk.specs.RegisterAnswer.{registered_by}
 use Rattle.lf_desk.specs.Calls.{retired_by}
-use Rattle.lf_desk.specs.Seats.{is_of_seat, own, IsExtended}
+use Rattle.lf_desk.specs.Seats.{is_of_seat, is_made_by, own, IsExtended}
 use Rattle.lf_session.specs.declared.request.Asked.{Asked}
 use Rattle.lf_session.specs.declared.request.Asked.TheVariants as asked
 use Rattle.lf_session.specs.Replies.{Reply}
@@ -28,47 +29,57 @@ own-extended alone seat before after went =
     ∙ (own-append seat before went.more
     ∙ (ap (λ (w : List Operation). own seat before ++ w) went.others ∙ append-nil (own seat before)))
 
+-- what is the seat's own after an exchange
+pub own-after : (seat : ℕ) (before seen later made : List Operation) → own seat seen ≡ own seat before → own seat later ≡ own seat seen
+    → own seat (later ++ made) ≡ own seat before ++ own seat made
+own-after seat before seen later made came went =
+    own-append seat later made ∙ ap (λ (w : List Operation). w ++ own seat made) (went ∙ came)
+
+-- ---- what requests made is of the seat's number, or a publication
+
+abbrev pub AllMade : ℕ → List Operation → Type 0
+AllMade seat made = list_all (is_made_by seat) made ≡ true
+
+pub made-append : (seat : ℕ) (one two : List Operation) → AllMade seat one → AllMade seat two → AllMade seat (one ++ two)
+made-append seat [] two first second = second
+made-append seat (entry ∷ rest) two first second =
+    let parts = and_parts (is_made_by seat entry) (list_all (is_made_by seat) rest) first in
+    and_from (is_made_by seat entry) (list_all (is_made_by seat) (rest ++ two)) parts.0 (made-append seat rest two parts.1 second)
+
 itself : (seat : ℕ) → nat_eq seat seat ≡ true
 itself seat = eq-eqb seat seat refl
 
-own-registered : (seat : ℕ) (name text : List ℕ) (result : Result Bool RegisterErr)
-    → own seat (registered_by seat name text result) ≡ registered_by seat name text result
-own-registered seat name text (Ok true) = rw (itself seat) refl
-own-registered seat name text (Ok false) = refl
-own-registered seat name text (Err error) = refl
+made-registered : (seat : ℕ) (name text : List ℕ) (result : Result Bool RegisterErr) → AllMade seat (registered_by seat name text result)
+made-registered seat name text (Ok true) = rw (itself seat) refl
+made-registered seat name text (Ok false) = refl
+made-registered seat name text (Err error) = refl
 
-own-retired : (seat : ℕ) (name : List ℕ) (result : Result Bool Memory)
-    → own seat (retired_by seat name result) ≡ retired_by seat name result
-own-retired seat name (Ok true) = rw (itself seat) refl
-own-retired seat name (Ok false) = refl
-own-retired seat name (Err refused) = refl
+made-retired : (seat : ℕ) (name : List ℕ) (result : Result Bool Memory) → AllMade seat (retired_by seat name result)
+made-retired seat name (Ok true) = rw (itself seat) refl
+made-retired seat name (Ok false) = refl
+made-retired seat name (Err refused) = refl
 
-own-committed : (seat : ℕ) (patch : Patch) (result : Result ℕ CommitErr)
-    → own seat (committed_by seat patch result) ≡ committed_by seat patch result
-own-committed seat patch (Ok version) = rw (itself seat) refl
-own-committed seat patch (Err error) = refl
+made-committed : (seat : ℕ) (patch : Patch) (result : Result ℕ CommitErr) → AllMade seat (committed_by seat patch result)
+made-committed seat patch (Ok version) = rw (itself seat) refl
+made-committed seat patch (Err error) = refl
 
--- the seat's own, where they are some that are
-own-is : (seat : ℕ) (made these : List Operation) → made ≡ these → own seat these ≡ these → own seat made ≡ made
-own-is seat made these is same = ap (own seat) is ∙ (same ∙ sym is)
+made-is : (seat : ℕ) (made these : List Operation) → made ≡ these → AllMade seat these → AllMade seat made
+made-is seat made these is all = subst (AllMade seat) (sym is) all
 
-pub own-made : (seat : ℕ) (name body : List ℕ) (need : ℕ) (wanted : Asked) (seen later made : List Operation) (reply : Reply)
-    → IsAnswered seat name body need wanted seen later made reply → own seat made ≡ made
-own-made seat name body need (asked.Refused why) seen later made reply by = own-is seat made [] by.1 refl
-own-made seat name body need asked.Put seen later made reply by = own-is seat made _ by.1.2 (own-registered seat name body by.1.0)
-own-made seat name body need asked.Delete seen later made reply by = own-is seat made _ by.1.2 (own-retired seat name by.1.0)
-own-made seat name body need asked.Get seen later made reply by = own-is seat made [] by.1 refl
-own-made seat name body need asked.GetNow seen later made reply by = own-is seat made [] by.0 refl
-own-made seat name body need asked.Commit seen later made reply by = committed by.1
+pub made-none : (seat : ℕ) (made : List Operation) → made ≡ [] → AllMade seat made
+made-none seat made is = made-is seat made [] is refl
+
+pub made-answered : (seat : ℕ) (name body : List ℕ) (need : ℕ) (wanted : Asked) (seen later made : List Operation) (reply : Reply)
+    → IsAnswered seat name body need wanted seen later made reply → AllMade seat made
+made-answered seat name body need (asked.Refused why) seen later made reply by = made-none seat made by.1
+made-answered seat name body need asked.Put seen later made reply by = made-is seat made _ by.1.2 (made-registered seat name body by.1.0)
+made-answered seat name body need asked.Delete seen later made reply by = made-is seat made _ by.1.2 (made-retired seat name by.1.0)
+made-answered seat name body need asked.Get seen later made reply by = made-none seat made by.1
+made-answered seat name body need asked.GetNow seen later made reply by = made-none seat made by.0
+made-answered seat name body need asked.Commit seen later made reply by = committed by.1
   where
-    committed : Commits seat body seen made reply → own seat made ≡ made
-    committed (inl done) = own-is seat made _ done.makes (own-committed seat done.patch done.result)
-    committed (inr (inl refused)) = own-is seat made [] refused.0 refl
-    committed (inr (inr none)) = own-is seat made [] none.0 refl
-own-made seat name body need asked.Version seen later made reply by = own-is seat made [] by.1 refl
-
--- what is the seat's own after an exchange
-pub own-after : (seat : ℕ) (before seen later made : List Operation) → own seat seen ≡ own seat before → own seat later ≡ own seat seen
-    → own seat made ≡ made → own seat (later ++ made) ≡ own seat before ++ made
-own-after seat before seen later made came went same =
-    own-append seat later made ∙ (λ i. (went ∙ came) i ++ same i)
+    committed : Commits seat body seen made reply → AllMade seat made
+    committed (inl done) = made-is seat made _ done.makes (made-committed seat done.patch done.result)
+    committed (inr (inl refused)) = made-none seat made refused.0
+    committed (inr (inr none)) = made-none seat made none.0
+made-answered seat name body need asked.Version seen later made reply by = made-none seat made by.1

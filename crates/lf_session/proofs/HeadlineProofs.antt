@@ -11,22 +11,21 @@ use Rattle.lf_session.specs.Session.{Last, IsLast}
 use Rattle.lf_session.specs.Session as session
 use Rattle.lf_session.specs.Headline.{IsTrusted, AreTrusted, SessionsHold, answered}
 use Rattle.lf_session.proofs.HeadlineTrust.{answered-trust}
-use Rattle.lf_session.proofs.OwnProofs.{own-session}
+use Rattle.lf_session.proofs.OwnProofs.{own-session, made-session}
 
 -- what one exchange gives
 record Holds (need : ℕ) (x : Exchange) : Type 0 where
   pub trusted : IsTrusted (needed need x.head) x
   pub legal : IsLegal is_first_frame (history_of x)
 
-exchange-holds : (alone : Bool) (seat need : ℕ) (before : List Operation) (x : Exchange) → IsLegal is_first_frame before
+exchange-holds : (alone : Bool) (seat need : ℕ) (before : List Operation) (x : Exchange)
     → IsExchange alone seat need before x → Holds need x
-exchange-holds alone seat need before x start is =
-    let legal : IsLegal is_first_frame (history_of x) = is.legal start in
+exchange-holds alone seat need before x is =
     let trust = answered-trust seat (name_of x.sent.target) x.body (needed need x.head) (asked_by x.head) x.seen x.later x.made x.reply
-    (prefix_is_legal is_first_frame x.later x.made legal) is.answered in
+    (prefix_is_legal is_first_frame x.later x.made is.legal) is.answered in
     record {
       trusted = record { document = trust.document; framed = trust.framed; versioned = trust.versioned; pending = trust.pending };
-      legal = legal;
+      legal = is.legal;
     }
 
 -- what a chain of them gives
@@ -38,7 +37,7 @@ chain-holds : (alone : Bool) (seat need : ℕ) (before : List Operation) (xs : L
     → IsChain alone seat need before xs → Hold need (last_history before xs) xs
 chain-holds alone seat need before [] start chain = record { trusted = tt; legal = start }
 chain-holds alone seat need before (x ∷ xs) start chain =
-    let first = exchange-holds alone seat need before x start chain.0 in
+    let first = exchange-holds alone seat need before x chain.0 in
     let rest = chain-holds alone seat (need_of need x) (history_of x) xs first.legal chain.2 in
     record { trusted = (first.trusted, rest.trusted); legal = rest.legal }
 
@@ -58,7 +57,7 @@ last-holds : (alone : Bool) (seat : ℕ) (before after : List Operation) (xs : L
     → Hold 0 after (answered xs last)
 last-holds alone seat before after xs rest left session.nothing hold stands = same-history _ after xs hold stands.2
 last-holds alone seat before after xs rest left (session.request x) hold stands =
-    let one = exchange-holds alone seat (last_need 0 xs) (last_history before xs) x hold.legal stands.0 in
+    let one = exchange-holds alone seat (last_need 0 xs) (last_history before xs) x stands.0 in
     record {
       trusted = trusted-more 0 xs x hold.trusted one.trusted;
       legal = subst (IsLegal is_first_frame) (sym stands.2) one.legal;
@@ -70,10 +69,11 @@ last-holds alone seat before after xs rest left (session.no_room head) hold stan
 last-holds alone seat before after xs rest left session.no_buffers hold stands = same-history _ after xs hold stands.1
 
 pub sessions_hold : SessionsHold
-sessions_hold alone seat bytes written left before after end xs last start is =
-    let hold = last-holds alone seat before after xs is.rest left last (chain-holds alone seat 0 before xs start is.chain) is.stands in
+sessions_hold alone seat bytes written left before after end xs last is =
+    let hold = last-holds alone seat before after xs is.rest left last (chain-holds alone seat 0 before xs is.started is.chain) is.stands in
     record {
       trusted = hold.trusted;
       once = own-session alone seat bytes written left before after end xs last is;
+      made = made-session alone seat bytes written left before after end xs last is;
       legal = hold.legal;
     }

@@ -1,4 +1,5 @@
 pub mod Printed
+pub mod EmptyHistory
 pub mod Extended
 pub mod OneStep
 pub mod Registered

@@ -2,6 +2,8 @@
 use Rattle.std.proofs.Common.{◌≡◌, ℕ, Bool, List, [], sym, subst}
 use Rattle.std.proofs.lemmas.List.{append-nil}
 use Rattle.def_histories.specs.declared.operation.Operation.{Operation}
+use Rattle.def_histories.specs.Legal.{IsLegal}
+use Rattle.lf_desk.specs.Accepted.{is_first_frame}
 use Rattle.lf_desk.specs.Calls.{IsCall}
 use Rattle.lf_session.specs.declared.request.Asked.{Asked}
 use Rattle.lf_session.specs.Replies.{Reply}
@@ -10,16 +12,16 @@ use Rattle.lf_session.specs.Steps.{IsStep}
 use Rattle.lf_session.proofs.Extended.{extended-same}
 
 pub step-alone : (alone : Bool) (seat need : ℕ) (name body : List ℕ) (asked : Asked) (before : List Operation) (reply : Reply)
-    → IsAnswered seat name body need asked before before [] reply
+    → IsLegal is_first_frame before → IsAnswered seat name body need asked before before [] reply
     → IsStep alone seat need name body asked before before reply
-step-alone alone seat need name body asked before reply answered = record {
+step-alone alone seat need name body asked before reply legal answered = record {
   seen = before;
   later = before;
   made = [];
   came = extended-same alone seat before;
   went = extended-same alone seat before;
   follows = sym (append-nil before);
-  legal = λ l. l;
+  legal = legal;
   answered = answered;
 }
 
@@ -34,7 +36,7 @@ step-once alone seat need name body asked before after made reply Says call answ
   came = call.came;
   went = extended-same alone seat call.seen;
   follows = call.entered;
-  legal = λ _. call.legal;
+  legal = call.legal;
   answered = answers call.seen call.says;
 }
 

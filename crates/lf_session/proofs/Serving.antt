@@ -237,7 +237,7 @@ is_exchange alone seat need before after sent head name body reply is whole name
       whole = whole;
       came = step.came;
       went = step.went;
-      legal = λ was. subst (λ (w : List Operation). IsLegal is_first_frame w) step.follows (step.legal was);
+      legal = subst (λ (w : List Operation). IsLegal is_first_frame w) step.follows step.legal;
       answered = subst (λ (w : List ℕ). IsAnswered seat w body (needed need head) (asked_by head) step.seen step.later step.made reply) named step.answered;
     }
 

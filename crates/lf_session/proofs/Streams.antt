@@ -3,6 +3,8 @@ use Rattle.std.proofs.Common.{◌≡◌, ◌∙◌, refl, sym, ap, subst, inr, L
 use Rattle.lf_io.specs.Bytes.{prepended, appended}
 use Rattle.lf_io.proofs.Told.{prepended_twice, prepended_nothing, appended_nothing, appended_twice}
 use Rattle.def_histories.specs.declared.operation.Operation.{Operation}
+use Rattle.def_histories.specs.Legal.{IsLegal}
+use Rattle.lf_desk.specs.Accepted.{is_first_frame}
 use Rattle.lf_session.specs.declared.ended.Ended.{Ended}
 use Rattle.lf_session.specs.declared.ended.Ended.TheVariants as ended
 use Rattle.lf_session.specs.Exchanges.{Exchange, IsExchange, IsChain, message_of, answer_of, history_of, messages, answers, last_history, last_need, need_of}
@@ -14,17 +16,19 @@ use Rattle.lf_session.specs.Served.{IsServed, GoesOn, Ends}
 -- what was read, sent and made so far, by requests that were answered
 pub record IsUnderWay (alone : Bool) (seat need : ℕ) (before now : List Operation) (left0 left held0 held : Option (List ℕ)) (pending : List ℕ) : Type 0 where
   pub xs : List Exchange
+  pub started : IsLegal is_first_frame before
   pub chain : IsChain alone seat 0 before xs
   pub needs : need ≡ last_need 0 xs
   pub follows : now ≡ last_history before xs
   pub reads : left0 ≡ prepended (messages xs ++ pending) left
   pub writes : held ≡ appended held0 (answers xs)
 
-pub at_start : (alone : Bool) (seat : ℕ) (before : List Operation) (left held : Option (List ℕ))
+pub at_start : (alone : Bool) (seat : ℕ) (before : List Operation) (left held : Option (List ℕ)) → IsLegal is_first_frame before
     → IsUnderWay alone seat 0 before before left left held held []
-at_start alone seat before left held =
+at_start alone seat before left held legal =
     record {
       xs = [];
+      started = legal;
       chain = tt;
       needs = refl;
       follows = refl;
@@ -77,6 +81,7 @@ pub one_more : (alone : Bool) (seat need need_after : ℕ) (before now after : L
 one_more alone seat need need_after before now after left0 left1 left2 held0 held1 held2 pending pending_after u g =
     record {
       xs = u.xs ++ g.x ∷ [];
+      started = u.started;
       chain = chain_more alone seat 0 before u.xs g.x u.chain
           (subst (λ (w : List Operation). IsExchange alone seat (last_need 0 u.xs) w g.x) u.follows
           (subst (λ (n : ℕ). IsExchange alone seat n now g.x) u.needs g.is)) g.stays;
@@ -114,6 +119,7 @@ at_end alone seat need before now after left0 left1 left2 held0 held1 held2 pend
         record {
           rest = g.rest;
           sent = g.sent;
+          started = u.started;
           chain = u.chain;
           read = refl;
           wrote = refl;
@@ -125,9 +131,9 @@ at_end alone seat need before now after left0 left1 left2 held0 held1 held2 pend
         }
 
 -- no buffers were had
-pub not_begun : (alone : Bool) (seat : ℕ) (before : List Operation) (left held : Option (List ℕ))
+pub not_begun : (alone : Bool) (seat : ℕ) (before : List Operation) (left held : Option (List ℕ)) → IsLegal is_first_frame before
     → IsServed alone seat before before record { left_before = left; left_after = left; held_before = held; held_after = held } ended.Memory
-not_begun alone seat before left held =
+not_begun alone seat before left held legal =
     record {
       bytes = [];
       written = [];
@@ -138,6 +144,7 @@ not_begun alone seat before left held =
       session = record {
         rest = [];
         sent = [];
+        started = legal;
         chain = tt;
         read = refl;
         wrote = refl;

@@ -6,11 +6,13 @@ use Rattle.httparse.specs.Grammar.{RequestHead, IsRequestHead, ReadsRequest, IsF
 use Rattle.httparse.proofs.GrammarLemmas.{request_unique}
 use Rattle.lf_http.specs.declared.head.HeadErr.{HeadErr}
 use Rattle.lf_http.specs.Judge.{method_of, target_of, request_of, judged}
+use Rattle.lf_desk.specs.Accepted.{is_first_frame}
 use Rattle.lf_session.specs.ReplyCases.{replies_open}
 use Rattle.lf_session.specs.Exchanges.{IsExchange}
 use Rattle.lf_session.specs.Session.{IsFirstRefusal}
 use Rattle.lf_session.specs.FirstSession.{request_head, commit_exchange}
 use Rattle.lf_session.specs.WorkedEnds.{closing_get, closing_patch, WorkedEnds}
+use Rattle.lf_session.proofs.EmptyHistory.{empty_is_legal}
 use Rattle.lf_session.proofs.FirstSessionProofs.{passes, a_head, one_field, as_it_was, commit-head}
 
 -- a head without lines
@@ -44,7 +46,7 @@ unfolding is_token_byte encode_utf8
 patch-head = a_head (codes "PATCH") (codes "/version") _ (omega arith) refl (omega arith) refl (codes "/version", (refl, refl))
     (one_field (codes "Connection") (codes " close") (omega arith) refl refl)
 
-get-is : IsExchange true 1 0 [] closing_get
+get-is : IsExchange true 0 0 [] closing_get
 unfolding print_request method_of target_of trim_ows
 get-is = record {
   is_head = get-head;
@@ -54,11 +56,11 @@ get-is = record {
   whole = refl;
   came = as_it_was [];
   went = as_it_was [];
-  legal = λ legal. legal;
+  legal = empty_is_legal is_first_frame;
   answered = (refl, refl, refl);
 }
 
-patch-is : IsExchange true 1 0 [] closing_patch
+patch-is : IsExchange true 0 0 [] closing_patch
 unfolding print_request method_of target_of trim_ows
 patch-is = record {
   is_head = patch-head;
@@ -68,7 +70,7 @@ patch-is = record {
   whole = refl;
   came = as_it_was [];
   went = as_it_was [];
-  legal = λ legal. legal;
+  legal = empty_is_legal is_first_frame;
   answered = (refl, refl, refl);
 }
 
@@ -89,6 +91,7 @@ worked_ends = record {
   no_host = record {
     rest = codes "GET /version HTTP/1.1\r\n\r\n";
     sent = _;
+    started = empty_is_legal is_first_frame;
     chain = tt;
     read = refl;
     wrote = refl;
@@ -99,6 +102,7 @@ worked_ends = record {
   no_length = record {
     rest = codes "PUT /frames/a HTTP/1.1\r\nHost: x\r\n\r\n";
     sent = _;
+    started = empty_is_legal is_first_frame;
     chain = tt;
     read = refl;
     wrote = refl;
@@ -109,6 +113,7 @@ worked_ends = record {
   cut_body = record {
     rest = codes "POST /patch HTTP/1.1\r\nHost: x\r\nContent-Length: 32\r\n\r\n<http://e/a>";
     sent = [];
+    started = empty_is_legal is_first_frame;
     chain = tt;
     read = refl;
     wrote = refl;
@@ -135,6 +140,7 @@ worked_ends = record {
   closed = record {
     rest = codes "PATCH /version HTTP/1.1\r\nHost: x\r\nConnection: close\r\n\r\nGET /version HTTP/1.1\r\nHost: x\r\n\r\n";
     sent = _;
+    started = empty_is_legal is_first_frame;
     chain = tt;
     read = refl;
     wrote = refl;
@@ -145,6 +151,7 @@ worked_ends = record {
   write_failed = record {
     rest = codes "GET /version HTTP/1.1\r\nHost: x\r\nConnection: close\r\n\r\n";
     sent = codes "HTTP/1.1 2";
+    started = empty_is_legal is_first_frame;
     chain = tt;
     read = refl;
     wrote = refl;

@@ -55,7 +55,7 @@ pub record IsExchange (alone : Bool) (seat need : ℕ) (before : List Operation)
   pub whole : length x.body ≡ x.head.length
   pub came : IsExtended alone seat before x.seen
   pub went : IsExtended alone seat x.seen x.later
-  pub legal : IsLegal is_first_frame before → IsLegal is_first_frame (history_of x)
+  pub legal : IsLegal is_first_frame (history_of x)
   pub answered : IsAnswered seat (name_of x.sent.target) x.body (needed need x.head) (asked_by x.head) x.seen x.later x.made x.reply
 
 -- one after another, where none asked to close

@@ -53,10 +53,10 @@ patch = record {
 }
 
 abbrev pub one_commit : List Operation
-one_commit = entry.Commit 1 patch ∷ []
+one_commit = entry.Commit 0 patch ∷ []
 
 abbrev pub first_history : List Operation
-first_history = entry.Commit 1 patch ∷ entry.Register 1 (codes "a") (codes "{}") ∷ []
+first_history = entry.Commit 0 patch ∷ entry.Register 0 (codes "a") (codes "{}") ∷ []
 
 -- its requests
 abbrev pub field : List ℕ → List ℕ → Field
@@ -98,7 +98,7 @@ register_exchange = record {
   body = codes "{}";
   seen = one_commit;
   later = one_commit;
-  made = entry.Register 1 (codes "a") (codes "{}") ∷ [];
+  made = entry.Register 0 (codes "a") (codes "{}") ∷ [];
   reply = register_reply (codes "a") (Ok true);
 }
 
@@ -143,4 +143,4 @@ first_exchanges = commit_exchange ∷ register_exchange ∷ look_exchange ∷ re
 
 -- it is a session of a seat that is alone, from an empty history on
 abbrev pub FirstSession : Type 0
-FirstSession = IsSession true 1 first_input (Some []) [] first_history first_output ended.Clean first_exchanges nothing
+FirstSession = IsSession true 0 first_input (Some []) [] first_history first_output ended.Clean first_exchanges nothing

@@ -1,5 +1,6 @@
 -- What a caller can trust of each reply.
-use Rattle.std.specs.Prelude.{◌≡◌, ◌≤◌, List, [], ◌∷◌, ◌++◌, ℕ, Bool, true, false, is_some, Option, Some}
+use Rattle.std.specs.Prelude.{◌≡◌, ◌≤◌, List, [], ◌∷◌, ◌++◌, ℕ, Bool, true, false, is_some, Option, Some, IsTrue}
+use Rattle.std.specs.List.{list_all}
 use Rattle.def_histories.specs.declared.live.Live.{Live}
 use Rattle.def_histories.specs.declared.operation.Operation.{Operation}
 use Rattle.def_histories.specs.History.{commits, live}
@@ -7,7 +8,7 @@ use Rattle.def_histories.specs.Legal.{IsLegal}
 use Rattle.def_histories.specs.Replay.{dataset_at}
 use Rattle.lf_http.specs.Reading.{name_of}
 use Rattle.lf_desk.specs.Accepted.{is_first_frame}
-use Rattle.lf_desk.specs.Seats.{own}
+use Rattle.lf_desk.specs.Seats.{own, is_made_by}
 use Rattle.lf_desk.specs.Document.{document}
 use Rattle.lf_desk.specs.Looks.{is_new_enough}
 use Rattle.lf_session.specs.declared.ended.Ended.{Ended}
@@ -70,16 +71,17 @@ answered xs faulted = xs
 answered xs (no_room head) = xs
 answered xs no_buffers = xs
 
--- The documents are of one version each, and the seat's own operations are those that its requests made, in order, each once.
+-- The documents are of one version each. The seat's own operations are those of its number that its requests made, in order,
+-- each once; all else that they made is publications.
 pub record IsHeadline (seat : ℕ) (before after : List Operation) (xs : List Exchange) : Type 0 where
   pub trusted : AreTrusted 0 xs
-  pub once : own seat after ≡ own seat before ++ all_made xs
+  pub once : own seat after ≡ own seat before ++ own seat (all_made xs)
+  pub made : IsTrue (list_all (is_made_by seat) (all_made xs))
   pub legal : IsLegal is_first_frame after
 
--- so it is of each stream that is served from a legal history on
+-- so it is of each stream that is served
 abbrev pub SessionsHold : Type 0
 SessionsHold =
     (alone : Bool) (seat : ℕ) (bytes written : List ℕ) (left : Option (List ℕ)) (before after : List Operation) (end : Ended)
     (xs : List Exchange) (last : Last)
-    → IsLegal is_first_frame before → IsSession alone seat bytes left before after written end xs last
-    → IsHeadline seat before after (answered xs last)
+    → IsSession alone seat bytes left before after written end xs last → IsHeadline seat before after (answered xs last)

@@ -30,7 +30,8 @@ Reads told bytes = told.left_before ≡ prepended bytes told.left_after
 abbrev pub Writes : Told → List ℕ → Type 0
 Writes told bytes = told.held_after ≡ appended told.held_before bytes
 
--- A whole stream was served, from a history to another. The seat's own operations are those before and what its requests made.
+-- A whole stream was served, from a history to another. The seat's own operations are those before and what its requests made
+-- with its number; a publication that they made has none.
 pub record IsServed (alone : Bool) (seat : ℕ) (before after : List Operation) (told : Told) (ended : Ended) : Type 0 where
   pub bytes : List ℕ
   pub written : List ℕ
@@ -39,7 +40,7 @@ pub record IsServed (alone : Bool) (seat : ℕ) (before after : List Operation) 
   pub reads : Reads told bytes
   pub writes : Writes told written
   pub session : IsSession alone seat bytes told.left_after before after written ended xs last
-  pub once : own seat after ≡ own seat before ++ all_made (answered xs last)
+  pub once : own seat after ≡ own seat before ++ own seat (all_made (answered xs last))
 
 -- A request was answered, and the stream goes on. Bytes that were pending stood before those of the source.
 pub record GoesOn (alone : Bool) (seat need need_after : ℕ) (before after : List Operation) (told : Told) (pending pending_after : List ℕ) : Type 0 where

@@ -9,6 +9,8 @@ use Rattle.lf_http.specs.declared.head.HeadErr.TheVariants.{CutShort as CutHead,
 use Rattle.lf_http.specs.Judge.{request_of, judged}
 use Rattle.lf_http.specs.Reading.{LacksHead, IsRefused, longest_head, most_lines}
 use Rattle.def_histories.specs.declared.operation.Operation.{Operation}
+use Rattle.def_histories.specs.Legal.{IsLegal}
+use Rattle.lf_desk.specs.Accepted.{is_first_frame}
 use Rattle.lf_session.specs.declared.ended.Ended.{Ended}
 use Rattle.lf_session.specs.declared.ended.Ended.TheVariants as ended
 use Rattle.lf_session.specs.Replies.{Reply, out_of_memory, reply_bytes, refusal, refusal_bytes}
@@ -90,11 +92,12 @@ EndsBy last sent ended.Memory =
     ((head : Head) × (last ≡ no_room head) × (sent ≡ due last)) ⊎ ((last ≡ no_buffers) × (sent ≡ []))
 
 -- A stream is served: the bytes that were read and what is left behind them, the histories at its start and its end, the
--- bytes that were sent, how it ended, and its requests with the last one apart.
+-- bytes that were sent, how it ended, and its requests with the last one apart. Each history of the chain is legal.
 pub record IsSession (alone : Bool) (seat : ℕ) (bytes : List ℕ) (left : Option (List ℕ)) (before after : List Operation)
     (written : List ℕ) (end : Ended) (xs : List Exchange) (last : Last) : Type 0 where
   pub rest : List ℕ
   pub sent : List ℕ
+  pub started : IsLegal is_first_frame before
   pub chain : IsChain alone seat 0 before xs
   pub read : bytes ≡ messages xs ++ rest
   pub wrote : written ≡ answers xs ++ sent

@@ -8,7 +8,7 @@ use Rattle.lf_session.specs.declared.request.Asked.{Asked}
 use Rattle.lf_session.specs.Replies.{Reply}
 use Rattle.lf_session.specs.Answers.{IsAnswered}
 
--- The desk's history went on from one to another, and the request was answered by what stood between.
+-- The desk's history went on from one to another, which is legal, and the request was answered by what stood between.
 pub record IsStep (alone : Bool) (seat need : ℕ) (name body : List ℕ) (asked : Asked) (before after : List Operation) (reply : Reply) : Type 0 where
   pub seen : List Operation
   pub later : List Operation
@@ -16,5 +16,5 @@ pub record IsStep (alone : Bool) (seat need : ℕ) (name body : List ℕ) (asked
   pub came : IsExtended alone seat before seen
   pub went : IsExtended alone seat seen later
   pub follows : after ≡ later ++ made
-  pub legal : IsLegal is_first_frame before → IsLegal is_first_frame after
+  pub legal : IsLegal is_first_frame after
   pub answered : IsAnswered seat name body need asked seen later made reply

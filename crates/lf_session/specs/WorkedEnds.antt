@@ -50,23 +50,23 @@ refused_with e status text = session.refused e (plain status (error_body text))
 
 pub record WorkedEnds : Type 0 where
   pub no_host :
-      IsSession true 1 (codes "GET /version HTTP/1.1\r\n\r\n") (Some []) [] []
+      IsSession true 0 (codes "GET /version HTTP/1.1\r\n\r\n") (Some []) [] []
       (codes "HTTP/1.1 400 Bad Request\r\nContent-Type: application/json\r\nConnection: close\r\nContent-Length: 20\r\n\r\n{\"error\":\"bad head\"}")
       (ended.Bad 400) [] (refused_with h.BadHead 400 (codes "bad head"))
   pub no_length :
-      IsSession true 1 (codes "PUT /frames/a HTTP/1.1\r\nHost: x\r\n\r\n") (Some []) [] []
+      IsSession true 0 (codes "PUT /frames/a HTTP/1.1\r\nHost: x\r\n\r\n") (Some []) [] []
       (codes "HTTP/1.1 411 Length Required\r\nContent-Type: application/json\r\nConnection: close\r\nContent-Length: 27\r\n\r\n{\"error\":\"length required\"}")
       (ended.Bad 411) [] (refused_with h.LengthNeeded 411 (codes "length required"))
   pub cut_body :
-      IsSession true 1 (codes "POST /patch HTTP/1.1\r\nHost: x\r\nContent-Length: 32\r\n\r\n<http://e/a>") (Some []) [] [] [] ended.CutShort [] session.cut
+      IsSession true 0 (codes "POST /patch HTTP/1.1\r\nHost: x\r\nContent-Length: 32\r\n\r\n<http://e/a>") (Some []) [] [] [] ended.CutShort [] session.cut
   -- the message behind it isn't answered
   pub closed :
-      IsSession true 1
+      IsSession true 0
       (codes "PATCH /version HTTP/1.1\r\nHost: x\r\nConnection: close\r\n\r\n" ++ codes "GET /version HTTP/1.1\r\nHost: x\r\n\r\n")
       (Some []) [] []
       (codes "HTTP/1.1 405 Method Not Allowed\r\nContent-Type: application/json\r\nAllow: GET\r\nConnection: close\r\nContent-Length: 30\r\n\r\n{\"error\":\"method not allowed\"}")
       ended.Asked [] (session.request closing_patch)
   -- ten bytes were taken
   pub write_failed :
-      IsSession true 1 (codes "GET /version HTTP/1.1\r\nHost: x\r\nConnection: close\r\n\r\n") (Some []) [] []
+      IsSession true 0 (codes "GET /version HTTP/1.1\r\nHost: x\r\nConnection: close\r\n\r\n") (Some []) [] []
       (codes "HTTP/1.1 2") ended.WriteFault [] (session.request closing_get)

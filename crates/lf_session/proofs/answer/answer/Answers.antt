@@ -6,5 +6,6 @@ use Rattle.lf_session.proofs.answer.answer.Goals as goal
 pub returns-in-Refused-clause-step : goal.returns-in-Refused-clause-step
 returns-in-Refused-clause-step g c =
     step-alone _ _ c.args.need c.args.name.now c.args.body.now c.args.asked _ (shown c.refused_reply.result)
+    (g.met.D.Desk.legal c.args.desk.now)
     (refused-told _ c.args.need c.args.name.now c.args.body.now c.args.asked _ c.in-Refused.why _ c.in-Refused.is
     c.refused_reply.ensures.shown)

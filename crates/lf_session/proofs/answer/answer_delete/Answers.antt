@@ -7,4 +7,5 @@ use Rattle.lf_session.proofs.answer.answer_delete.Goals as goal
 pub returns-in-Err-clause-step : goal.returns-in-Err-clause-step
 returns-in-Err-clause-step g c = λ need body.
     step-alone _ _ need c.args.name.now body asks.Delete _ (shown c.out_of_memory.result)
+    (g.met.D.Desk.legal c.args.desk.now)
     (delete-lost _ need c.args.name.now body _ c.in-Err.field-0 _ c.out_of_memory.ensures.shown)

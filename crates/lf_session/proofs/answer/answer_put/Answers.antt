@@ -7,4 +7,5 @@ use Rattle.lf_session.proofs.answer.answer_put.Goals as goal
 pub returns-in-Err-clause-step : goal.returns-in-Err-clause-step
 returns-in-Err-clause-step g c = λ need.
     step-alone _ _ need c.args.name.now c.args.body.now asks.Put _ (shown c.refused_bytes.result)
+    (g.met.D.Desk.legal c.args.desk.now)
     (put-bytes _ need c.args.name.now c.args.body.now _ _ c.in-Err.ensures.cases.0 c.refused_bytes.ensures.shown)

@@ -5,7 +5,7 @@ use Rattle.lf_session.proofs.serve.serve_stream.Goals as goal
 pub returns-in-Err-clause-served : goal.returns-in-Err-clause-served
 returns-in-Err-clause-served g c =
     not_begun (g.D.Desk.alone c.args.desk.now) (g.D.Desk.seat c.args.desk.now) (g.D.Desk.history c.args.desk.now)
-    (g.S.Source.left c.args.input.now) (g.K.Sink.held c.args.output.now)
+    (g.S.Source.left c.args.input.now) (g.K.Sink.held c.args.output.now) (g.met.D.Desk.legal c.args.desk.now)
 
 pub returns-in-Some-clause-served : goal.returns-in-Some-clause-served
 returns-in-Some-clause-served g c =

@@ -4,6 +4,7 @@
 mod answer;
 mod files;
 mod print;
+mod program;
 mod run;
 mod session;
 #[cfg(test)]
@@ -12,4 +13,5 @@ mod session_tests;
 mod tests;
 mod words;
 
+pub use program::run_program;
 pub use run::run_words;

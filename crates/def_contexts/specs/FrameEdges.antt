@@ -7,7 +7,7 @@ use Rattle.lf_model.specs.declared.frame.IdTest.TheVariants as id_test
 use Rattle.lf_model.specs.declared.frame.TypeTest.TheVariants as type_test
 use Rattle.lf_model.specs.declared.frame.PartTest.TheVariants as part
 use Rattle.lf_model.specs.declared.error.LdError.TheVariants as ld
-use Rattle.lf_model.specs.JsonData.{null, truth, whole, text}
+use Rattle.lf_model.specs.JsonData.{JsonValue, null, truth, whole, text}
 use Rattle.def_nested.specs.Nested.{match_none, frame_map, no_props, prop, no_reverses, no_graph, in_graph, node_frame, value_pattern, plain, wildcard}
 use Rattle.def_contexts.specs.Table.{empty_table}
 use Rattle.def_contexts.specs.Frames.{frame_of}
@@ -198,6 +198,20 @@ array_of_null = refl
 pub set_of_null : frame_of (map_of ((codes "http://e/p", map_of ((codes "@set", list_of (null ∷ [])) ∷ (codes "x", whole (pos 5)) ∷ [])) ∷ [])) ≡ Ok (meant (wildcard plain))
 unfolding frames_open
 set_of_null = refl
+
+-- {"@context":{"q":"http://e/q"},"http://e/p":{"@set":[],"http://e/q":null,"q":null}}: where `@set` stands for its map no
+-- other key of that map is read, so that none collides
+abbrev pub two_names : JsonValue
+two_names = map_of ((codes "q", text (codes "http://e/q")) ∷ [])
+
+pub set_beside_two_names : frame_of (map_of ((codes "@context", two_names) ∷ (codes "http://e/p", map_of ((codes "@set", list_of []) ∷ (codes "http://e/q", null) ∷ (codes "q", null) ∷ [])) ∷ [])) ≡ Ok (record { nested = of_props plain (prop (codes "http://e/p") match_none no_props); table = table_with (plain_term (codes "q") (codes "http://e/q") ∷ []); context = two_names; top_graph = false })
+unfolding frames_open
+set_beside_two_names = refl
+
+-- without `@set` they collide
+pub two_names_refused : frame_of (map_of ((codes "@context", two_names) ∷ (codes "http://e/p", map_of ((codes "http://e/q", null) ∷ (codes "q", null) ∷ [])) ∷ [])) ≡ Err ld.InvalidFrame
+unfolding frames_open
+two_names_refused = refl
 
 -- {"http://e/p":{"@id":{},"@set":[]}}
 pub set_beside_id_refused : frame_of (map_of ((codes "http://e/p", map_of ((codes "@id", map_of []) ∷ (codes "@set", list_of []) ∷ [])) ∷ [])) ≡ Err ld.InvalidFrame

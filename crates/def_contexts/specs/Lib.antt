@@ -27,6 +27,7 @@ pub mod Readings
 pub mod MapReading
 pub mod SubFrames
 pub mod Frames
+pub mod FrameValues
 pub mod FrameLaws
 pub mod FrameCauses
 pub mod CaseWords

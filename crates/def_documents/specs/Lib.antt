@@ -10,6 +10,7 @@ pub mod Written
 pub mod PrintedContext
 pub mod JsonPrint
 pub mod Document
+pub mod FrameDocument
 pub mod CaseData
 pub mod LibraryCase
 pub mod LanguageMapCase

@@ -6,6 +6,7 @@ pub mod Steps
 pub mod Parts
 pub mod Embedding
 pub mod Outcome
+pub mod OutcomeBridge
 pub mod Nearness
 pub mod Items
 pub mod Depths

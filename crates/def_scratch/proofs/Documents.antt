@@ -1,10 +1,11 @@
 -- Documents computed from scratch.
-use Rattle.std.proofs.Common.{◌≡◌, ap, ap₂}
+use Rattle.std.proofs.Common.{◌≡◌, refl, ap, ap₂}
 use Rattle.def_framing.specs.Views.{Views, of_dataset}
 use Rattle.def_framing.specs.Outcome.{outcome_in, framed_graph}
 use Rattle.def_documents.specs.Document.{scratch}
+use Rattle.def_documents.specs.FrameDocument.{document_of}
 use Rattle.def_scratch.specs.Scratch.{scratch_by}
-use Rattle.def_scratch.specs.Laws.{FrameErrorsDecide, SameViewsSameDocument}
+use Rattle.def_scratch.specs.Laws.{FrameErrorsDecide, FrameGivesDocumentOfItsMeaning, FrameGivesDocumentOfItsText, OutcomesGiveTheDocument, SameViewsSameDocument}
 
 pub errors_decide : FrameErrorsDecide
 errors_decide frame error dataset e = ap (λ read. scratch_by read dataset) e
@@ -25,3 +26,12 @@ same_document meaning one two ids view keys pointing names =
           pointing = λ graph property id. pointing graph property id i;
           names_graph = λ name. names name i;
         }
+
+pub document_of_meaning : FrameGivesDocumentOfItsMeaning
+document_of_meaning f dataset = refl
+
+pub document_of_text : FrameGivesDocumentOfItsText
+document_of_text frame f dataset stands = ap (λ read. scratch_by read dataset) stands
+
+pub document_of_outcomes : OutcomesGiveTheDocument
+document_of_outcomes f dataset all same = ap (document_of f) same

@@ -3,4 +3,7 @@
 
 mod laws;
 
-pub use laws::{frame_errors_decide, same_views_same_document};
+pub use laws::{
+    frame_errors_decide, frame_gives_document_of_its_meaning, frame_gives_document_of_its_text,
+    outcomes_give_the_document, same_views_same_document, worked_frame,
+};

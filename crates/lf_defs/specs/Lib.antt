@@ -32,6 +32,7 @@ pub use Rattle.lf_oracle.specs.NodeViews
 pub use Rattle.def_contexts.specs.Table
 pub use Rattle.def_contexts.specs.Expansion
 pub use Rattle.def_contexts.specs.Frames
+pub use Rattle.def_contexts.specs.FrameValues
 pub use Rattle.def_nested.specs.Nested
 pub use Rattle.def_nested.specs.Unfolding
 -- matching and embedding
@@ -40,6 +41,7 @@ pub use Rattle.def_framing.specs.Matching
 pub use Rattle.def_framing.specs.Parts
 pub use Rattle.def_framing.specs.Embedding
 pub use Rattle.def_framing.specs.Outcome
+pub use Rattle.def_framing.specs.OutcomeBridge
 pub use Rattle.def_framing.specs.Nearness
 -- compaction and documents
 pub use Rattle.def_printed.specs.JsonText
@@ -51,11 +53,13 @@ pub use Rattle.def_documents.specs.Entries as PropertyEntries
 pub use Rattle.def_documents.specs.Nodes
 pub use Rattle.def_documents.specs.Pruning
 pub use Rattle.def_documents.specs.Document
+pub use Rattle.def_documents.specs.FrameDocument
 pub use Rattle.def_scratch.specs.Scratch
 -- histories and desks
 pub use Rattle.def_histories.specs.History
 pub use Rattle.def_histories.specs.Replay
 pub use Rattle.def_histories.specs.Legal
+pub use Rattle.def_histories.specs.Jobs
 pub use Rattle.lf_desk.specs.Seats
 pub use Rattle.lf_desk.specs.Calls
 pub use Rattle.lf_desk.specs.RegisterAnswer

@@ -28,10 +28,11 @@ use Rattle.def_contexts.specs.Places.{Place, of_property, of_item, of_graph, of_
 use Rattle.def_contexts.specs.MapReading.{read_property, read_reverse, read_node_key, read_value_key, read_list_key, read_class_key, read_keyword, read_key, read_reverse_key}
 use Rattle.def_contexts.specs.Readings.{Reading, unread, Reader, ReverseReader, within_found, with_property, with_reverse, item_found, list_kind, node_kind, kind_of, frame_read}
 use Rattle.def_contexts.specs.FrameLaws.{is_map, is_bare, fits_kind, is_sound, are_sound, are_sound_reverses, is_sound_within, is_sound_kind}
-use Rattle.def_contexts.specs.FrameCauses.{refers, speaks, is_no_map, is_no_value, gives, gives_reverses, is_misused, holds_frames}
+use Rattle.def_contexts.specs.FrameCauses.{refers, speaks, is_no_embed, is_no_id, is_no_type, is_no_map, is_no_value, gives, gives_reverses, is_misused, holds_frames}
 use Rattle.def_contexts.proofs.Holding.{Holds, then-holds, refuse-holds, or_left, or_right}
 use Rattle.def_contexts.proofs.FrameOrder.{sound-put, sound-put_reverse}
-use Rattle.def_contexts.proofs.FrameParts.{FlagAllows, id_test-refuses, type_test-refuses, flag-refuses, part-refuses, given-refuses, defaults-refuses}
+use Rattle.def_contexts.proofs.Ordered.{both_true}
+use Rattle.def_contexts.proofs.FrameParts.{FlagAllows, id_test-caused, type_test-caused, flag-refuses, part-refuses, given-refuses, defaults-refuses}
 
 abbrev pub is_node_map : MapClass → Bool
 is_node_map node_map = true
@@ -314,8 +315,8 @@ module _ (Q : LdError → Type 0) where
       (key-cond (text_eq name (codes "@list")) list_key other_key name (λ e. e) tt)))))))))))
 
   -- the errors of which a key and its value speak
-  abbrev pub Says : List Meaning → Meaning → JsonValue → Type 0
-  Says before m value = (e : LdError) → IsTrue (speaks e before m value) → Q e
+  abbrev pub Says : TermTable → List Meaning → Meaning → JsonValue → Type 0
+  Says table before m value = (e : LdError) → IsTrue (speaks e table before m value) → Q e
 
   -- a value pattern may be refused as a value object, and all but node frames as frames
   abbrev pub ClassAllows : MapClass → Type 0
@@ -332,12 +333,12 @@ module _ (Q : LdError → Type 0) where
   abbrev CameFrom : List Meaning → Reading → Type 0
   CameFrom before r = (iri : List ℕ) → one_of r.reversed iri ≡ true → list_any gives_reverses before ≡ true
 
-  read_node_key-holds : (key : FrameKey) (name : List ℕ) (before : List Meaning) (table : TermTable) (value : JsonValue) (sub : Reader) (reverses : ReverseReader) (r : Reading) → is_flag key ≡ false → KeyFits key name → Says before (keyword name) value → Misuses before key value → CameFrom before r → (holds_frames (keyword name) ≡ true → Reads (is_bad_at value) sub) → (holds_frames (keyword name) ≡ true → ReadsReverse reverses) → IsRead node_map (keyword name ∷ before) r → Holds Q (IsRead node_map (keyword name ∷ before)) (read_node_key key table value sub reverses r)
+  read_node_key-holds : (key : FrameKey) (name : List ℕ) (before : List Meaning) (table : TermTable) (value : JsonValue) (sub : Reader) (reverses : ReverseReader) (r : Reading) → is_flag key ≡ false → KeyFits key name → Says table before (keyword name) value → Misuses before key value → CameFrom before r → (holds_frames (keyword name) ≡ true → Reads (is_bad_at value) sub) → (holds_frames (keyword name) ≡ true → ReadsReverse reverses) → IsRead node_map (keyword name ∷ before) r → Holds Q (IsRead node_map (keyword name ∷ before)) (read_node_key key table value sub reverses r)
   read_node_key-holds id_key name before table value sub reverses r flag fits says misused came reads turns h =
-      then-holds Q (λ (_ : IdTest). ⊤) (IsRead node_map (keyword name ∷ before)) (id_test_of table value) _ (id_test-refuses Q table value (says ld.InvalidIdValue fits))
+      then-holds Q (λ (_ : IdTest). ⊤) (IsRead node_map (keyword name ∷ before)) (id_test_of table value) _ (id_test-caused Q table value (λ refused. says ld.InvalidIdValue (both_true (text_eq name (codes "@id")) (is_no_id table value) fits refused)))
       (λ t _. record { props = h.props; reverses = h.reverses; within = h.within; item = h.item; bare = λ e. absurd (true≢false (sym e)); alone = λ e. absurd (true≢false e); keywords = h.keywords; properties = h.properties; reversed = h.reversed })
   read_node_key-holds type_key name before table value sub reverses r flag fits says misused came reads turns h =
-      then-holds Q (λ (_ : TypeTest). ⊤) (IsRead node_map (keyword name ∷ before)) (type_test_of table value) _ (type_test-refuses Q table value (says ld.InvalidTypeValue fits))
+      then-holds Q (λ (_ : TypeTest). ⊤) (IsRead node_map (keyword name ∷ before)) (type_test_of table value) _ (type_test-caused Q table value (λ refused. says ld.InvalidTypeValue (both_true (text_eq name (codes "@type")) (is_no_type table value) fits refused)))
       (λ t _. record { props = h.props; reverses = h.reverses; within = h.within; item = h.item; bare = λ e. absurd (true≢false (sym e)); alone = λ e. absurd (true≢false e); keywords = h.keywords; properties = h.properties; reversed = h.reversed })
   read_node_key-holds graph_key name before table value sub reverses r flag fits says misused came reads turns h =
       then-holds Q (Fits of_graph) (IsRead node_map (keyword name ∷ before)) (sub of_graph) _
@@ -379,22 +380,23 @@ module _ (Q : LdError → Type 0) where
       (λ found fits. record { props = h.props; reverses = h.reverses; within = h.within; item = item-sound term found fits; bare = h.bare; alone = h.alone; keywords = h.keywords; properties = h.properties; reversed = h.reversed })
   read_list_key-holds _ name term value sub now r fits q id reads h = q
 
-  read_class_key-holds : (class : MapClass) (key : FrameKey) (name : List ℕ) (before : List Meaning) (table : TermTable) (place : Place) (bad : Bool) (value : JsonValue) (sub : Reader) (reverses : ReverseReader) (r : Reading) → is_flag key ≡ false → KeyFits key name → Says before (keyword name) value → Misuses before key value → CameFrom before r → ClassAllows class → Allows place bad → (holds_frames (keyword name) ≡ true → Reads (is_bad_at value) sub) → (holds_frames (keyword name) ≡ true → ReadsReverse reverses) → IsRead class (keyword name ∷ before) r → Holds Q (IsRead class (keyword name ∷ before)) (read_class_key class key table place value sub reverses r)
+  read_class_key-holds : (class : MapClass) (key : FrameKey) (name : List ℕ) (before : List Meaning) (table : TermTable) (place : Place) (bad : Bool) (value : JsonValue) (sub : Reader) (reverses : ReverseReader) (r : Reading) → is_flag key ≡ false → KeyFits key name → Says table before (keyword name) value → Misuses before key value → CameFrom before r → ClassAllows class → Allows place bad → (holds_frames (keyword name) ≡ true → Reads (is_bad_at value) sub) → (holds_frames (keyword name) ≡ true → ReadsReverse reverses) → IsRead class (keyword name ∷ before) r → Holds Q (IsRead class (keyword name ∷ before)) (read_class_key class key table place value sub reverses r)
   read_class_key-holds value_map key name before table place bad value sub reverses r flag fits says misused came c allows reads turns h = read_value_key-holds key (keyword name ∷ before) table value r c.0 h
   read_class_key-holds list_map key name before table place bad value sub reverses r flag fits says misused came c allows reads turns h = read_list_key-holds key name (term_at place) value sub (keyword name ∷ before) r fits c allows.refers reads h
   read_class_key-holds node_map key name before table place bad value sub reverses r flag fits says misused came c allows reads turns h = read_node_key-holds key name before table value sub reverses r flag fits says misused came reads turns h
   read_class_key-holds set_map key name before table place bad value sub reverses r flag fits says misused came c allows reads turns h = c
 
-  flag-allows : (flag : FlagKey) (name : List ℕ) (before : List Meaning) (value : JsonValue) → KeyFits (flag_key flag) name → Says before (keyword name) value → Misuses before (flag_key flag) value → FlagAllows Q flag value
-  flag-allows embed_key name before value fits says misused = says ld.InvalidEmbedValue fits
-  flag-allows explicit_key name before value fits says misused = misused
-  flag-allows require_all_key name before value fits says misused = misused
-  flag-allows omit_default_key name before value fits says misused = misused
+  flag-allows : (flag : FlagKey) (name : List ℕ) (before : List Meaning) (table : TermTable) (value : JsonValue) → KeyFits (flag_key flag) name → Says table before (keyword name) value → Misuses before (flag_key flag) value → FlagAllows Q flag value
+  flag-allows embed_key name before table value fits says misused =
+      λ refused. says ld.InvalidEmbedValue (both_true (text_eq name (codes "@embed")) (is_no_embed value) fits refused)
+  flag-allows explicit_key name before table value fits says misused = misused
+  flag-allows require_all_key name before table value fits says misused = misused
+  flag-allows omit_default_key name before table value fits says misused = misused
 
-  read_keyword-holds : (class : MapClass) (key : FrameKey) (name : List ℕ) (before : List Meaning) (table : TermTable) (place : Place) (bad : Bool) (value : JsonValue) (sub : Reader) (reverses : ReverseReader) (r : Reading) → KeyFits key name → Says before (keyword name) value → Misuses before key value → CameFrom before r → ClassAllows class → Allows place bad → (holds_frames (keyword name) ≡ true → Reads (is_bad_at value) sub) → (holds_frames (keyword name) ≡ true → ReadsReverse reverses) → IsRead class (keyword name ∷ before) r → Holds Q (IsRead class (keyword name ∷ before)) (read_keyword class key table place value sub reverses r)
+  read_keyword-holds : (class : MapClass) (key : FrameKey) (name : List ℕ) (before : List Meaning) (table : TermTable) (place : Place) (bad : Bool) (value : JsonValue) (sub : Reader) (reverses : ReverseReader) (r : Reading) → KeyFits key name → Says table before (keyword name) value → Misuses before key value → CameFrom before r → ClassAllows class → Allows place bad → (holds_frames (keyword name) ≡ true → Reads (is_bad_at value) sub) → (holds_frames (keyword name) ≡ true → ReadsReverse reverses) → IsRead class (keyword name ∷ before) r → Holds Q (IsRead class (keyword name ∷ before)) (read_keyword class key table place value sub reverses r)
   read_keyword-holds class (flag_key flag) name before table place bad value sub reverses r fits says misused came c allows reads turns h =
       then-holds Q (λ (_ : Flags). ⊤) (IsRead class (keyword name ∷ before)) (flag_stated flag value r.flags) _
-      (flag-refuses Q flag value r.flags (flag-allows flag name before value fits says misused))
+      (flag-refuses Q flag value r.flags (flag-allows flag name before table value fits says misused))
       (λ flags _. record { props = h.props; reverses = h.reverses; within = h.within; item = h.item; bare = h.bare; alone = h.alone; keywords = h.keywords; properties = h.properties; reversed = h.reversed })
   read_keyword-holds class default_key name before table place bad value sub reverses r fits says misused came c allows reads turns h =
       then-holds Q (λ _. ⊤) (IsRead class (keyword name ∷ before)) (refuse (not (takes_default place)) ld.InvalidFrame) _
@@ -405,7 +407,7 @@ module _ (Q : LdError → Type 0) where
   read_keyword-holds class key name before table place bad value sub reverses r fits says misused came c allows reads turns h =
       read_class_key-holds class key name before table place bad value sub reverses r refl fits says misused came c allows reads turns h
 
-  pub read_key-holds : (class : MapClass) (m : Meaning) (before : List Meaning) (table : TermTable) (place : Place) (bad : Bool) (value : JsonValue) (sub : Reader) (reverses : ReverseReader) (r : Reading) → Says before m value → ClassAllows class → Allows place bad → (holds_frames m ≡ true → Reads (is_bad_at value) sub) → (holds_frames m ≡ true → ReadsReverse reverses) → IsRead class before r → Holds Q (IsRead class (m ∷ before)) (read_key class m table place value sub reverses r)
+  pub read_key-holds : (class : MapClass) (m : Meaning) (before : List Meaning) (table : TermTable) (place : Place) (bad : Bool) (value : JsonValue) (sub : Reader) (reverses : ReverseReader) (r : Reading) → Says table before m value → ClassAllows class → Allows place bad → (holds_frames m ≡ true → Reads (is_bad_at value) sub) → (holds_frames m ≡ true → ReadsReverse reverses) → IsRead class before r → Holds Q (IsRead class (m ∷ before)) (read_key class m table place value sub reverses r)
   read_key-holds class dropped before table place bad value sub reverses r says c allows reads turns h = later-read class dropped before r h
   read_key-holds class (keyword name) before table place bad value sub reverses r says c allows reads turns h =
       let more : IsRead class (keyword name ∷ before) r = later-read class (keyword name) before r h in
@@ -471,11 +473,11 @@ module _ (Q : LdError → Type 0) where
   read-turned now before (Err e) h = h
 
   -- a key of `@reverse`
-  pub read_reverse_key-holds : (m : Meaning) (before now : List Meaning) (value : JsonValue) (sub : Reader) (r : Reading) → Says before m value → Q ld.InvalidReverseValue → list_any gives_reverses now ≡ true → (holds_frames m ≡ true → Reads (is_bad_at value) sub) → IsTurned now before r → Holds Q (IsTurned now (m ∷ before)) (read_reverse_key m sub r)
-  read_reverse_key-holds dropped before now value sub r says v turned reads h = (h.0, sourced-later dropped before r h.1)
-  read_reverse_key-holds (keyword name) before now value sub r says v turned reads h = v
-  read_reverse_key-holds (reverse_property iri) before now value sub r says v turned reads h = v
-  read_reverse_key-holds (property iri term) before now value sub r says v turned reads h =
+  pub read_reverse_key-holds : (m : Meaning) (before now : List Meaning) (table : TermTable) (value : JsonValue) (sub : Reader) (r : Reading) → Says table before m value → Q ld.InvalidReverseValue → list_any gives_reverses now ≡ true → (holds_frames m ≡ true → Reads (is_bad_at value) sub) → IsTurned now before r → Holds Q (IsTurned now (m ∷ before)) (read_reverse_key m sub r)
+  read_reverse_key-holds dropped before now table value sub r says v turned reads h = (h.0, sourced-later dropped before r h.1)
+  read_reverse_key-holds (keyword name) before now table value sub r says v turned reads h = v
+  read_reverse_key-holds (reverse_property iri) before now table value sub r says v turned reads h = v
+  read_reverse_key-holds (property iri term) before now table value sub r says v turned reads h =
       turned-read (read_reverse iri sub r) (read_reverse-holds iri (is_bad_at value) sub now r again v turned (reads refl) h.0)
     where
       again : one_of r.reversed iri ≡ true → Q ld.InvalidFrame

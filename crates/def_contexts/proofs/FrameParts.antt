@@ -1,5 +1,5 @@
 -- Which errors the parts of a frame's map give.
-use Rattle.std.proofs.Common.{◌≡◌, ℕ, Bool, true, false, not, ◌&&◌, List, [], ◌∷◌, Option, Some, None, Result, Ok, refl, codes}
+use Rattle.std.proofs.Common.{◌≡◌, ℕ, Bool, true, false, not, ◌&&◌, List, [], ◌∷◌, Option, Some, None, Result, Ok, Err, refl, sym, subst, codes}
 use Rattle.std.specs.Bool.{⊤}
 use Rattle.lf_rdf.specs.declared.term.Term.{Term}
 use Rattle.lf_rdf.specs.Equality.{text_eq}
@@ -25,7 +25,7 @@ use Rattle.def_contexts.specs.FrameFlags.{FlagKey, embed_key, explicit_key, requ
 use Rattle.def_contexts.specs.GivenValues.{Coercion, to_id, to_vocab, to_datatype, uncoerced, coercion_of, Given, reference_or_refused, text_coerced, given}
 use Rattle.def_contexts.specs.ValuePatterns.{scalar_of, scalars_of, part_list, part_of}
 use Rattle.def_contexts.specs.Defaults.{default_scalar, referenced, default_reference, datatype_expanded, default_datatype, default_language, some_scalar, default_value_scalar, is_default_key, default_value, default_of, defaults_of_items, defaults_of}
-use Rattle.def_contexts.specs.FrameCauses.{makes_reference, refers, is_truth}
+use Rattle.def_contexts.specs.FrameCauses.{makes_reference, refers, is_truth, is_refused, is_no_embed, is_no_id, is_no_type}
 use Rattle.def_contexts.proofs.Holding.{Holds, then-holds, refuse-holds, cond-holds}
 
 module _ (Q : LdError → Type 0) where
@@ -62,7 +62,7 @@ module _ (Q : LdError → Type 0) where
       cond-holds Q (λ (_ : TypeTest). ⊤) (is_any value) _ _ (λ _. tt)
       (λ _. cond-holds Q (λ (_ : TypeTest). ⊤) (is_never value) _ _ (λ _. tt) (λ _. types_given-refuses table value q))
 
-  embed_given-refuses : (value : JsonValue) → Q ld.InvalidEmbedValue → Refuses (embed_given value)
+  pub embed_given-refuses : (value : JsonValue) → Q ld.InvalidEmbedValue → Refuses (embed_given value)
   embed_given-refuses (text name) q =
       cond-holds Q (λ (_ : Embed). ⊤) (text_eq name (codes "@once")) _ _ (λ _. tt)
       (λ _. cond-holds Q (λ (_ : Embed). ⊤) (text_eq name (codes "@always")) _ _ (λ _. tt)
@@ -71,24 +71,9 @@ module _ (Q : LdError → Type 0) where
   embed_given-refuses (truth false) q = tt
   embed_given-refuses _ q = q
 
-  truth_given-refuses : (value : JsonValue) → (not (is_truth value) ≡ true → Q ld.InvalidFrame) → Refuses (truth_given value)
+  pub truth_given-refuses : (value : JsonValue) → (not (is_truth value) ≡ true → Q ld.InvalidFrame) → Refuses (truth_given value)
   truth_given-refuses (truth b) q = tt
   truth_given-refuses _ q = q refl
-
-  -- the error of a flag
-  abbrev pub FlagAllows : FlagKey → JsonValue → Type 0
-  FlagAllows embed_key value = Q ld.InvalidEmbedValue
-  FlagAllows _ value = not (is_truth (alone value)) ≡ true → Q ld.InvalidFrame
-
-  pub flag-refuses : (flag : FlagKey) (value : JsonValue) (flags : Flags) → FlagAllows flag value → Refuses (flag_stated flag value flags)
-  flag-refuses embed_key value flags own =
-      then-holds Q (λ (_ : Embed). ⊤) (λ (_ : Flags). ⊤) (embed_given (alone value)) _ (embed_given-refuses (alone value) own) (λ e h. tt)
-  flag-refuses explicit_key value flags own =
-      then-holds Q (λ (_ : Bool). ⊤) (λ (_ : Flags). ⊤) (truth_given (alone value)) _ (truth_given-refuses (alone value) own) (λ e h. tt)
-  flag-refuses require_all_key value flags own =
-      then-holds Q (λ (_ : Bool). ⊤) (λ (_ : Flags). ⊤) (truth_given (alone value)) _ (truth_given-refuses (alone value) own) (λ e h. tt)
-  flag-refuses omit_default_key value flags own =
-      then-holds Q (λ (_ : Bool). ⊤) (λ (_ : Flags). ⊤) (truth_given (alone value)) _ (truth_given-refuses (alone value) own) (λ e h. tt)
 
   part_list-refuses : (o : Option (List Scalar)) → Q ld.InvalidValueObject → Refuses (part_list o)
   part_list-refuses (Some scalars) q = tt
@@ -195,3 +180,34 @@ module _ (Q : LdError → Type 0) where
   defaults-refuses table term fraction r q = one_default-refuses table term fraction r q
   defaults-refuses table term (text t) r q = one_default-refuses table term (text t) r q
   defaults-refuses table term (object given) r q = one_default-refuses table term (object given) r q
+
+-- ---- errors with their values
+
+module _ (Q : LdError → Type 0) where
+  -- what has one error alone is refused with it
+  one-error : {A : Type 0} (error : LdError) (r : Result A LdError) → Refuses (λ e. e ≡ error) r → (is_refused r ≡ true → Q error) → Refuses Q r
+  one-error error (Ok value) same q = tt
+  one-error error (Err e) same q = subst Q (sym same) (q refl)
+
+  pub id_test-caused : (table : TermTable) (value : JsonValue) → (is_no_id table value ≡ true → Q ld.InvalidIdValue) → Refuses Q (id_test_of table value)
+  id_test-caused table value q =
+      one-error ld.InvalidIdValue (id_test_of table value) (id_test-refuses (λ e. e ≡ ld.InvalidIdValue) table value refl) q
+
+  pub type_test-caused : (table : TermTable) (value : JsonValue) → (is_no_type table value ≡ true → Q ld.InvalidTypeValue) → Refuses Q (type_test_of table value)
+  type_test-caused table value q =
+      one-error ld.InvalidTypeValue (type_test_of table value) (type_test-refuses (λ e. e ≡ ld.InvalidTypeValue) table value refl) q
+
+  -- the error of a flag
+  abbrev pub FlagAllows : FlagKey → JsonValue → Type 0
+  FlagAllows embed_key value = is_no_embed value ≡ true → Q ld.InvalidEmbedValue
+  FlagAllows _ value = not (is_truth (alone value)) ≡ true → Q ld.InvalidFrame
+
+  pub flag-refuses : (flag : FlagKey) (value : JsonValue) (flags : Flags) → FlagAllows flag value → Refuses Q (flag_stated flag value flags)
+  flag-refuses embed_key value flags own =
+      then-holds Q (λ (_ : Embed). ⊤) (λ (_ : Flags). ⊤) (embed_given (alone value)) _ (one-error ld.InvalidEmbedValue (embed_given (alone value)) (embed_given-refuses (λ e. e ≡ ld.InvalidEmbedValue) (alone value) refl) own) (λ e h. tt)
+  flag-refuses explicit_key value flags own =
+      then-holds Q (λ (_ : Bool). ⊤) (λ (_ : Flags). ⊤) (truth_given (alone value)) _ (truth_given-refuses Q (alone value) own) (λ e h. tt)
+  flag-refuses require_all_key value flags own =
+      then-holds Q (λ (_ : Bool). ⊤) (λ (_ : Flags). ⊤) (truth_given (alone value)) _ (truth_given-refuses Q (alone value) own) (λ e h. tt)
+  flag-refuses omit_default_key value flags own =
+      then-holds Q (λ (_ : Bool). ⊤) (λ (_ : Flags). ⊤) (truth_given (alone value)) _ (truth_given-refuses Q (alone value) own) (λ e h. tt)

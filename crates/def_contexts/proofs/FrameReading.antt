@@ -34,34 +34,34 @@ turned xs ys h = (bytes_decides ys xs).1 (sym ((bytes_decides xs ys).0 h))
 
 -- a key that is this keyword speaks of an error, whatever stands before it
 abbrev WordSpeaks : LdError → List ℕ → Type 0
-WordSpeaks e word = (before : List Meaning) (m : Meaning) (value : JsonValue) → is_the_keyword word m ≡ true → IsTrue (speaks e before m value)
+WordSpeaks e word = (table : TermTable) (before : List Meaning) (m : Meaning) (value : JsonValue) → is_the_keyword word m ≡ true → IsTrue (speaks e table before m value)
 
 value-speaks : WordSpeaks ld.InvalidValueObject (codes "@value")
-value-speaks before (keyword name) value h =
+value-speaks table before (keyword name) value h =
     or_left (text_eq name (codes "@value")) (text_eq name (codes "@language")) (turned (codes "@value") name h)
-value-speaks before dropped value h = h
-value-speaks before (property iri term) value h = absurd (true≢false (sym h))
-value-speaks before (reverse_property iri) value h = absurd (true≢false (sym h))
+value-speaks table before dropped value h = h
+value-speaks table before (property iri term) value h = absurd (true≢false (sym h))
+value-speaks table before (reverse_property iri) value h = absurd (true≢false (sym h))
 
 language-speaks : WordSpeaks ld.InvalidValueObject (codes "@language")
-language-speaks before (keyword name) value h =
+language-speaks table before (keyword name) value h =
     or_right (text_eq name (codes "@value")) (text_eq name (codes "@language")) (turned (codes "@language") name h)
-language-speaks before dropped value h = h
-language-speaks before (property iri term) value h = absurd (true≢false (sym h))
-language-speaks before (reverse_property iri) value h = absurd (true≢false (sym h))
+language-speaks table before dropped value h = h
+language-speaks table before (property iri term) value h = absurd (true≢false (sym h))
+language-speaks table before (reverse_property iri) value h = absurd (true≢false (sym h))
 
 -- a keyword that is always misused where it is no pattern's
 word-misused : (word : List ℕ) → ((before : List Meaning) (value : JsonValue) → is_misused before (frame_key word) value ≡ true) → WordSpeaks ld.InvalidFrame word
-word-misused word misused before (keyword name) value h =
+word-misused word misused table before (keyword name) value h =
     subst (λ own. is_misused before (frame_key own) value ≡ true) ((bytes_decides word name).0 h) (misused before value)
-word-misused word misused before dropped value h = h
-word-misused word misused before (property iri term) value h = absurd (true≢false (sym h))
-word-misused word misused before (reverse_property iri) value h = absurd (true≢false (sym h))
+word-misused word misused table before dropped value h = h
+word-misused word misused table before (property iri term) value h = absurd (true≢false (sym h))
+word-misused word misused table before (reverse_property iri) value h = absurd (true≢false (sym h))
 
 -- where one of the kept keys speaks of an error, the map does
 kept-speaks :
     (e : LdError) (test : Meaning → Bool) (table : TermTable) (before : List Meaning) (given : JsonMembers) →
-    ((before : List Meaning) (m : Meaning) (value : JsonValue) → test m ≡ true → IsTrue (speaks e before m value)) →
+    ((before : List Meaning) (m : Meaning) (value : JsonValue) → test m ≡ true → IsTrue (speaks e table before m value)) →
     list_any test (kept table given) ≡ true → IsTrue (members_speak e table before given)
 kept-speaks e test table before no_members says h = h
 kept-speaks e test table before (member key value rest) says h =
@@ -71,12 +71,12 @@ kept-speaks e test table before (member key value rest) says h =
     m : Meaning
     m = meaning_of table key
 
-    by : (b : Bool) → test m ≡ b → (b || list_any test (kept table rest)) ≡ true → (list_any test (kept table rest) ≡ true → IsTrue (members_speak e table (m ∷ before) rest)) → IsTrue (speaks e before m value || ((holds_frames m && value_speaks e table value) || members_speak e table (m ∷ before) rest))
+    by : (b : Bool) → test m ≡ b → (b || list_any test (kept table rest)) ≡ true → (list_any test (kept table rest) ≡ true → IsTrue (members_speak e table (m ∷ before) rest)) → IsTrue (speaks e table before m value || ((holds_frames m && value_speaks e table value) || members_speak e table (m ∷ before) rest))
     by true same h later =
-        or_left (speaks e before m value) ((holds_frames m && value_speaks e table value) || members_speak e table (m ∷ before) rest)
+        or_left (speaks e table before m value) ((holds_frames m && value_speaks e table value) || members_speak e table (m ∷ before) rest)
         (says before m value same)
     by false same h later =
-        or_right (speaks e before m value) ((holds_frames m && value_speaks e table value) || members_speak e table (m ∷ before) rest)
+        or_right (speaks e table before m value) ((holds_frames m && value_speaks e table value) || members_speak e table (m ∷ before) rest)
         (or_right (holds_frames m && value_speaks e table value) (members_speak e table (m ∷ before) rest) (later h))
 
 -- `@set` alone is one of the kept keys
@@ -107,12 +107,12 @@ module _ (Q : LdError → Type 0) where
         says ld.InvalidValueObject (either ld.InvalidValueObject value-speaks language-speaks (has_keyword (codes "@value") (kept table given)) refl h),
         says ld.InvalidFrame (either ld.InvalidFrame (word-misused (codes "@value") (λ before value. refl)) (word-misused (codes "@language") (λ before value. refl)) (has_keyword (codes "@value") (kept table given)) refl h),
       ))
-      (λ h. says ld.InvalidFrame (kept-speaks ld.InvalidFrame (is_the_keyword (codes "@list")) table [] given (word-misused (codes "@list") (λ before value. refl)) h))
-      (λ h. says ld.InvalidFrame (kept-speaks ld.InvalidFrame (is_the_keyword (codes "@set")) table [] given (word-misused (codes "@set") (λ before value. refl)) (set-kept (kept table given) h)))
+      (λ h. says ld.InvalidFrame (kept-speaks ld.InvalidFrame (is_the_keyword (codes "@list")) table [] given (word-misused (codes "@list") (λ before value. refl) table) h))
+      (λ h. says ld.InvalidFrame (kept-speaks ld.InvalidFrame (is_the_keyword (codes "@set")) table [] given (word-misused (codes "@set") (λ before value. refl) table) (set-kept (kept table given) h)))
     where
       either : (e : LdError) → WordSpeaks e (codes "@value") → WordSpeaks e (codes "@language") → (b : Bool) → has_keyword (codes "@value") (kept table given) ≡ b → (b || has_keyword (codes "@language") (kept table given)) ≡ true → IsTrue (members_speak e table [] given)
-      either e values languages true same h = kept-speaks e (is_the_keyword (codes "@value")) table [] given values same
-      either e values languages false same h = kept-speaks e (is_the_keyword (codes "@language")) table [] given languages h
+      either e values languages true same h = kept-speaks e (is_the_keyword (codes "@value")) table [] given (values table) same
+      either e values languages false same h = kept-speaks e (is_the_keyword (codes "@language")) table [] given (languages table) h
 
   map_read-holds : (class : MapClass) (now : List Meaning) (place : Place) (r : Result Reading LdError) → Holds Q (IsRead class now) r → Holds Q (Fits place) (map_read class place r)
   map_read-holds class now place r h = then-holds Q (IsRead class now) (Fits place) r _ h (λ reading k. placed-fits place class now reading k)
@@ -151,18 +151,18 @@ module _ (Q : LdError → Type 0) where
   set_or-holds false this rest h k = k
 
   -- what is said of the first value or of the later ones
-  said-key : (table : TermTable) (before : List Meaning) (key : List ℕ) (value : JsonValue) (rest : JsonMembers) → MapSays table before (member key value rest) → Says Q before (meaning_of table key) value
-  said-key table before key value rest says e h = says e (or_left (speaks e before (meaning_of table key) value) _ h)
+  said-key : (table : TermTable) (before : List Meaning) (key : List ℕ) (value : JsonValue) (rest : JsonMembers) → MapSays table before (member key value rest) → Says Q table before (meaning_of table key) value
+  said-key table before key value rest says e h = says e (or_left (speaks e table before (meaning_of table key) value) _ h)
 
   said-value : (table : TermTable) (before : List Meaning) (key : List ℕ) (value : JsonValue) (rest : JsonMembers) → MapSays table before (member key value rest) → holds_frames (meaning_of table key) ≡ true → (e : LdError) → IsTrue (value_speaks e table value) → Q e
   said-value table before key value rest says held e h =
-      says e (or_right (speaks e before (meaning_of table key) value) _
+      says e (or_right (speaks e table before (meaning_of table key) value) _
       (or_left (holds_frames (meaning_of table key) && value_speaks e table value) _
       (both_true (holds_frames (meaning_of table key)) (value_speaks e table value) held h)))
 
   said-rest : (table : TermTable) (before : List Meaning) (key : List ℕ) (value : JsonValue) (rest : JsonMembers) → MapSays table before (member key value rest) → MapSays table (meaning_of table key ∷ before) rest
   said-rest table before key value rest says e h =
-      says e (or_right (speaks e before (meaning_of table key) value) _
+      says e (or_right (speaks e table before (meaning_of table key) value) _
       (or_right (holds_frames (meaning_of table key) && value_speaks e table value) _ h))
 
 -- the keys of a map, after those before it
@@ -265,7 +265,7 @@ mutual
   reverse_members-holds Q table no_members before now says r v reversed h = h
   reverse_members-holds Q table (member key value rest) before now says r v reversed h =
       then-holds Q (IsTurned Q now (meaning_of table key ∷ before)) (IsTurned Q now (all_read table (meaning_of table key ∷ before) rest)) _ _
-      (read_reverse_key-holds Q (meaning_of table key) before now value (sub_frame table value) r (said-key Q table before key value rest says) v reversed
+      (read_reverse_key-holds Q (meaning_of table key) before now table value (sub_frame table value) r (said-key Q table before key value rest says) v reversed
       (λ held. sub_frame-holds Q table value (said-value Q table before key value rest says held)) h)
       (λ next k. reverse_members-holds Q table rest (meaning_of table key ∷ before) now (said-rest Q table before key value rest says) next v reversed k)
 

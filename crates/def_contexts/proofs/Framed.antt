@@ -36,7 +36,7 @@ top-sound table given nested h =
 
 -- an error of which no key speaks
 abbrev IsMute : LdError → Type 0
-IsMute e = (before : List Meaning) (m : Meaning) (value : JsonValue) → speaks e before m value ≡ false
+IsMute e = (table : TermTable) (before : List Meaning) (m : Meaning) (value : JsonValue) → speaks e table before m value ≡ false
 
 mutual
   value-mute : (e : LdError) (table : TermTable) (value : JsonValue) → IsMute e → value_speaks e table value ≡ false
@@ -55,7 +55,7 @@ mutual
   members-mute : (e : LdError) (table : TermTable) (before : List Meaning) (given : JsonMembers) → IsMute e → members_speak e table before given ≡ false
   members-mute e table before no_members mute = refl
   members-mute e table before (member key value rest) mute =
-      rw (mute before (meaning_of table key) value, value-mute e table value mute, members-mute e table (meaning_of table key ∷ before) rest mute)
+      rw (mute table before (meaning_of table key) value, value-mute e table value mute, members-mute e table (meaning_of table key ∷ before) rest mute)
       (nothing (holds_frames (meaning_of table key)))
     where
       nothing : (b : Bool) → ((b && false) || false) ≡ false
@@ -68,7 +68,7 @@ context-frame _ h = refl
 
 top-frame : (e : LdError) (table : TermTable) (given : JsonMembers) → IsTrue (members_speak e table [] given) → IsTrue (is_frame_error e)
 top-frame ld.IriConfusedWithPrefix table given h =
-    absurd (true≢false (sym h ∙ members-mute ld.IriConfusedWithPrefix table [] given (λ before m value. refl)))
+    absurd (true≢false (sym h ∙ members-mute ld.IriConfusedWithPrefix table [] given (λ table before m value. refl)))
 top-frame _ table given h = refl
 
 -- the errors and the meaning of a frame

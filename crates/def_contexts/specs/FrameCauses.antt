@@ -1,5 +1,5 @@
 -- What must stand in the map of a frame for an error to come from it (JSON-LD 1.1 Framing, section 4.1).
-use Rattle.std.specs.Prelude.{◌≡◌, List, [], ◌∷◌, ℕ, Bool, true, false, not, ◌&&◌, ◌||◌, Option, Err, IsTrue, codes}
+use Rattle.std.specs.Prelude.{◌≡◌, List, [], ◌∷◌, ℕ, Bool, true, false, not, ◌&&◌, ◌||◌, Option, Result, Ok, Err, IsTrue, codes}
 use Rattle.std.specs.List.{list_any}
 use Rattle.lf_rdf.specs.Equality.{text_eq}
 use Rattle.lf_model.specs.declared.table.TermTable.{TermTable}
@@ -9,7 +9,8 @@ use Rattle.lf_model.specs.declared.error.LdError.TheVariants as ld
 use Rattle.lf_model.specs.JsonData.{JsonValue, JsonItems, JsonMembers, null, truth, whole, fraction, text, array, object, no_items, item, no_members, member}
 use Rattle.def_contexts.specs.Keywords.{one_of}
 use Rattle.def_contexts.specs.GivenValues.{Coercion, to_id, to_vocab, to_datatype, uncoerced, coercion_of}
-use Rattle.def_contexts.specs.FrameFlags.{embed_key, explicit_key, require_all_key, omit_default_key, alone}
+use Rattle.def_contexts.specs.NodeTests.{id_test_of, type_test_of}
+use Rattle.def_contexts.specs.FrameFlags.{embed_key, explicit_key, require_all_key, omit_default_key, alone, embed_given}
 use Rattle.def_contexts.specs.FrameKeys.{Meaning, dropped, keyword, property, reverse_property, meaning_of, is_the_keyword, FrameKey, flag_key, default_key, id_key, type_key, graph_key, reverse_key, value_key, language_key, list_key, other_key, frame_key}
 use Rattle.def_contexts.specs.Places.{under_language}
 use Rattle.def_contexts.specs.SubFrames.{top_frame}
@@ -36,6 +37,21 @@ abbrev pub are_no_map : JsonItems → Bool
 are_no_map no_items = false
 are_no_map (item value no_items) = is_no_object value
 are_no_map (item value (item _ _)) = true
+
+abbrev pub is_refused : {A : Type 0} → Result A LdError → Bool
+is_refused (Ok value) = false
+is_refused (Err error) = true
+
+-- a value that `@embed` can't have, also alone in an array
+abbrev pub is_no_embed : JsonValue → Bool
+is_no_embed value = is_refused (embed_given (alone value))
+
+-- a value that asks for no ids, and one that asks for no types and gives none
+abbrev pub is_no_id : TermTable → JsonValue → Bool
+is_no_id table value = is_refused (id_test_of table value)
+
+abbrev pub is_no_type : TermTable → JsonValue → Bool
+is_no_type table value = is_refused (type_test_of table value)
 
 -- a value that is neither a map nor an array of at most one map
 abbrev pub is_no_map : JsonValue → Bool
@@ -96,18 +112,18 @@ is_misread before (property iri term) value =
 is_misread before (reverse_property iri) value = list_any gives_reverses before
 
 -- what a key and its value must be for an error of frames to come from its map, with the keys before it
-abbrev pub speaks : LdError → List Meaning → Meaning → JsonValue → Bool
-speaks ld.InvalidFrame before m value = is_misread before m value
-speaks ld.CollidingKeywords before (keyword name) value = list_any (is_the_keyword name) before
-speaks ld.InvalidEmbedValue before (keyword name) value = text_eq name (codes "@embed")
-speaks ld.InvalidTypeValue before (keyword name) value = text_eq name (codes "@type")
-speaks ld.InvalidIdValue before (keyword name) value = text_eq name (codes "@id")
-speaks ld.InvalidIdValue before (property iri term) value = refers term
-speaks ld.InvalidReverseValue before (keyword name) value = text_eq name (codes "@reverse")
-speaks ld.InvalidReverseValue before (reverse_property iri) value = true
-speaks ld.InvalidValueObject before (keyword name) value =
+abbrev pub speaks : LdError → TermTable → List Meaning → Meaning → JsonValue → Bool
+speaks ld.InvalidFrame table before m value = is_misread before m value
+speaks ld.CollidingKeywords table before (keyword name) value = list_any (is_the_keyword name) before
+speaks ld.InvalidEmbedValue table before (keyword name) value = text_eq name (codes "@embed") && is_no_embed value
+speaks ld.InvalidTypeValue table before (keyword name) value = text_eq name (codes "@type") && is_no_type table value
+speaks ld.InvalidIdValue table before (keyword name) value = text_eq name (codes "@id") && is_no_id table value
+speaks ld.InvalidIdValue table before (property iri term) value = refers term
+speaks ld.InvalidReverseValue table before (keyword name) value = text_eq name (codes "@reverse")
+speaks ld.InvalidReverseValue table before (reverse_property iri) value = true
+speaks ld.InvalidValueObject table before (keyword name) value =
     text_eq name (codes "@value") || text_eq name (codes "@language")
-speaks _ _ _ _ = false
+speaks _ _ _ _ _ = false
 
 -- whether the value of a key holds frames
 abbrev pub holds_frames : Meaning → Bool
@@ -134,7 +150,7 @@ abbrev mutual
   pub members_speak : LdError → TermTable → List Meaning → JsonMembers → Bool
   members_speak e table before no_members = false
   members_speak e table before (member key value rest) =
-      speaks e before (meaning_of table key) value
+      speaks e table before (meaning_of table key) value
       || ((holds_frames (meaning_of table key) && value_speaks e table value)
       || members_speak e table (meaning_of table key ∷ before) rest)
 

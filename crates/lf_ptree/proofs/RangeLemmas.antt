@@ -1,16 +1,16 @@
 -- The pairs from a key on, level by level.
-use Rattle.std.proofs.Common.{◌≡◌, ℕ, zero, suc, ◌<◌, ◌≤◌, List, [], ◌∷◌, ◌++◌, map, length, take, drop, get_or, refl, sym, ap, ◌∙◌, arith, append_assoc, Bool, true, false, cond}
+use Rattle.std.proofs.Common.{◌≡◌, ℕ, zero, suc, List, [], ◌∷◌, ◌++◌, map, take, drop, get_or, refl, sym, ap, ◌∙◌, arith, Bool, true, false, cond}
 use Rattle.std.specs.Ordering.{is_lt}
 use Rattle.std.specs.Arc.{arc_value}
 use Rattle.std.specs.Cmp.{IsTotalOrder}
 use Rattle.std.specs.declared.alloc.Global.{Global}
 use Rattle.std.specs.declared.sync.Arc.{Arc}
 use Rattle.std.specs.declared.cmp.Ordering.{Ordering}
-use Rattle.std.specs.declared.cmp.Ordering.TheVariants.{Less, Equal, Greater}
+use Rattle.std.specs.declared.cmp.Ordering.TheVariants.{Less}
 use Rattle.std.proofs.lemmas.Map.Keys.{sorted_tail}
 use Rattle.lf_ptree.specs.declared.page.Page.{Page}
 use Rattle.lf_ptree.specs.declared.root.Middle.{Middle}
-use Rattle.lf_ptree.specs.Pairs.{keys, pairs_of, Ascends, pairs_from, IsAt, IsGapFor, AllBelow, BeginsAbove}
+use Rattle.lf_ptree.specs.Pairs.{keys, Ascends, pairs_from, IsAt, IsGapFor, AllBelow, BeginsAbove}
 use Rattle.lf_ptree.specs.Pages.{join, groups, page_pairs, IsGroupFor}
 use Rattle.lf_ptree.specs.Roots.{mid_groups, mid_pairs}
 use Rattle.lf_ptree.proofs.Ordered.{below_equal}

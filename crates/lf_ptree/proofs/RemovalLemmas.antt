@@ -1,5 +1,5 @@
 -- Pairs that are taken out, level by level.
-use Rattle.std.proofs.Common.{◌≡◌, ℕ, zero, suc, ◌<◌, ◌≤◌, List, [], ◌∷◌, ◌++◌, map, length, take, drop, get_or, refl, sym, ap, subst, ◌∙◌, arith, append_assoc}
+use Rattle.std.proofs.Common.{◌≡◌, ℕ, zero, suc, ◌<◌, List, [], ◌∷◌, ◌++◌, map, length, take, drop, get_or, refl, sym, ap, subst, ◌∙◌, arith, append_assoc}
 use Rattle.std.specs.List.{remove, AllByRecursion}
 use Rattle.std.specs.List.Sorted.{IsStrictlySortedBy}
 use Rattle.std.specs.Ordering.{match_ordering}
@@ -13,7 +13,7 @@ use Rattle.std.proofs.lemmas.Map.Keys.{sorted_tail}
 use Rattle.lf_ptree.specs.declared.page.Page.{Page}
 use Rattle.lf_ptree.specs.declared.root.Middle.{Middle}
 use Rattle.lf_ptree.specs.Pairs.{keys, Ascends, without_key, IsAt, IsGapFor, AllBelow, BeginsAbove}
-use Rattle.lf_ptree.specs.Pages.{join, groups, page_pairs, HasPair, IsGroupFor, IsRebuilt}
+use Rattle.lf_ptree.specs.Pages.{join, groups, page_pairs, IsGroupFor, IsRebuilt}
 use Rattle.lf_ptree.specs.Roots.{mid_groups, mid_pairs, AllFull, HasFullPages}
 use Rattle.lf_ptree.proofs.Ordered.{below_equal}
 use Rattle.lf_ptree.proofs.PairsLemmas.{less_at, appended}

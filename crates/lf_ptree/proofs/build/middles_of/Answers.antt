@@ -1,4 +1,4 @@
-use Rattle.std.proofs.Common.{◌≡◌, [], ◌∷◌, ◌++◌, map, sym, ap, ◌∙◌, arith, rules}
+use Rattle.std.proofs.Common.{ap, arith, rules}
 use Rattle.lf_ptree.specs.declared.root.Middle.{Middle}
 use Rattle.lf_ptree.proofs.RootsLemmas.{gathering_more, gathering_closed}
 use Rattle.lf_ptree.proofs.build.middles_of.Goals as goal

@@ -1,4 +1,3 @@
-use Rattle.std.proofs.Common.{sym, rules, IfOk, ◌≡◌, subst, ap}
 use Rattle.lf_ptree.specs.Pairs.{pairs_of}
 use Rattle.lf_ptree.proofs.PairsLemmas.{put_there, put_in_gap}
 use Rattle.lf_ptree.proofs.page.with_pair.Goals as goal

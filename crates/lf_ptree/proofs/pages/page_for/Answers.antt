@@ -1,7 +1,7 @@
-use Rattle.std.proofs.Common.{rules, ◌≡◌, subst, sym, ap, ◌∙◌, map}
+use Rattle.std.proofs.Common.{rules, subst, sym, ap, ◌∙◌, map}
 use Rattle.std.proofs.lemmas.Fn.{always_returns_same}
 use Rattle.std.specs.Arc.{arc_value}
-use Rattle.lf_ptree.specs.Pages.{head_order, page_pairs, IsGroupFor, groups, IsGrouped}
+use Rattle.lf_ptree.specs.Pages.{head_order, page_pairs, IsGroupFor, IsGrouped}
 use Rattle.lf_ptree.proofs.PagesLemmas.{group_picked, groups_alike, picked, picked-Err}
 use Rattle.lf_ptree.proofs.pages.page_for.Goals as goal
 

@@ -1,8 +1,8 @@
-use Rattle.std.proofs.Common.{◌≡◌, ◌++◌, ◌∷◌, [], get_or, take, drop, suc, sym, ap, subst, ◌∙◌}
+use Rattle.std.proofs.Common.{◌++◌, take, drop, suc, sym, ap, subst, ◌∙◌}
 use Rattle.std.specs.Arc.{arc_value}
 use Rattle.std.proofs.lemmas.Result.{IfOk-weaker}
 use Rattle.lf_ptree.specs.Pairs.{pairs_of, Ascends, put_pair}
-use Rattle.lf_ptree.specs.Pages.{groups, join, page_pairs, HasPair, IsGrouped, IsRebuilt}
+use Rattle.lf_ptree.specs.Pages.{groups, join, page_pairs, HasPair, IsGrouped}
 use Rattle.lf_ptree.proofs.PairsLemmas.{ascends_put}
 use Rattle.lf_ptree.proofs.PagesLemmas.{page_group, group_ascends, one_group, has_pair-put, put-joined}
 use Rattle.lf_ptree.proofs.pages.put_in_pages.Goals as goal

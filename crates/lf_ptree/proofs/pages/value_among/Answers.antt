@@ -1,6 +1,6 @@
-use Rattle.std.proofs.Common.{◌≡◌, get_or, sym, ap, subst, ◌∙◌}
+use Rattle.std.proofs.Common.{sym, ap, subst, ◌∙◌}
 use Rattle.std.specs.Arc.{arc_value}
-use Rattle.lf_ptree.specs.Pairs.{pairs_of, Ascends, value_at}
+use Rattle.lf_ptree.specs.Pairs.{Ascends, value_at}
 use Rattle.lf_ptree.specs.Pages.{groups, page_pairs}
 use Rattle.lf_ptree.proofs.PagesLemmas.{page_group, group_ascends, value-joined}
 use Rattle.lf_ptree.proofs.pages.value_among.Goals as goal

@@ -1,11 +1,11 @@
-use Rattle.std.proofs.Common.{◌≡◌, ◌<◌, ◌+◌, suc, ◌++◌, length, take, drop, map, set, sym, ap, subst, ◌∙◌, arith, rules}
+use Rattle.std.proofs.Common.{◌≡◌, ◌<◌, ◌+◌, suc, ◌++◌, length, take, drop, set, sym, ap, subst, ◌∙◌, arith}
 use Rattle.std.specs.Arc.{arc_value}
 use Rattle.std.specs.List.{insert}
 use Rattle.std.proofs.lemmas.Result.{IfOk-weaker}
 use Rattle.std.proofs.lemmas.List.{map-append, take-append-drop}
 use Rattle.std.proofs.Math.ListN.{length-map}
 use Rattle.lf_ptree.specs.Pairs.{pairs_of}
-use Rattle.lf_ptree.specs.Pages.{groups, HasPair, IsRebuilt, page_pairs}
+use Rattle.lf_ptree.specs.Pages.{groups, HasPair, IsRebuilt}
 use Rattle.lf_ptree.proofs.PagesLemmas.{pages_set, pages_insert, set-rebuilt, halves-rebuilt, has_pair-handles}
 use Rattle.lf_ptree.proofs.pages.with_page.Goals as goal
 

@@ -1,4 +1,4 @@
-use Rattle.std.proofs.Common.{drop, ap, ◌∙◌}
+use Rattle.std.proofs.Common.{ap, ◌∙◌}
 use Rattle.std.specs.Arc.{arc_value}
 use Rattle.lf_ptree.specs.Pairs.{pairs_of}
 use Rattle.lf_ptree.proofs.RangeLemmas.{map-drop, from_there, from_in_gap}

@@ -1,4 +1,4 @@
-use Rattle.std.proofs.Common.{rules, ◌≡◌, subst, sym, ap, ◌∙◌, map}
+use Rattle.std.proofs.Common.{rules, subst, sym, ap, ◌∙◌, map}
 use Rattle.std.proofs.lemmas.Fn.{always_returns_same}
 use Rattle.std.specs.Arc.{arc_value}
 use Rattle.lf_ptree.specs.Pages.{head_order, IsGroupFor, IsGrouped}

@@ -1,5 +1,4 @@
 use Rattle.std.proofs.Common.{◌≡◌, drop}
-use Rattle.std.specs.Arc.{arc_value}
 use Rattle.lf_ptree.specs.Pages.{flat, head_order}
 use Rattle.lf_ptree.proofs.root.order_beside.Given as goal
 

@@ -1,10 +1,10 @@
-use Rattle.std.proofs.Common.{◌≡◌, ◌<◌, ◌++◌, ◌∷◌, [], length, take, drop, suc, sym, ap, subst, ◌∙◌}
+use Rattle.std.proofs.Common.{◌<◌, ◌++◌, length, take, drop, suc, sym, ap, subst, ◌∙◌}
 use Rattle.std.specs.Arc.{arc_value}
 use Rattle.std.proofs.lemmas.Result.{IfOk-weaker}
 use Rattle.std.proofs.Math.ListN.{length-map}
 use Rattle.lf_ptree.specs.Pairs.{Ascends, put_pair}
-use Rattle.lf_ptree.specs.Pages.{join, flat, IsGrouped, IsRebuilt}
-use Rattle.lf_ptree.specs.Roots.{mid_groups, mid_pairs, AllFull, IsFirst}
+use Rattle.lf_ptree.specs.Pages.{join, IsGrouped}
+use Rattle.lf_ptree.specs.Roots.{mid_groups, mid_pairs}
 use Rattle.lf_ptree.proofs.PairsLemmas.{ascends_put}
 use Rattle.lf_ptree.proofs.PagesLemmas.{group_ascends, one_group, put-joined}
 use Rattle.lf_ptree.proofs.RootsLemmas.{mid_group, full_at, both_ok}

@@ -1,4 +1,4 @@
-use Rattle.std.proofs.Common.{◌≡◌, ◌<◌, sym, ap, subst, ◌∙◌, arith, length}
+use Rattle.std.proofs.Common.{◌<◌, sym, ap, subst, ◌∙◌, length}
 use Rattle.std.specs.Arc.{arc_value}
 use Rattle.std.proofs.Math.ListN.{length-map}
 use Rattle.lf_ptree.specs.Pairs.{Ascends, value_at}

@@ -1,4 +1,4 @@
-use Rattle.std.proofs.Common.{◌≡◌, ◌<◌, ◌+◌, suc, ◌++◌, length, take, drop, map, set, sym, ap, subst, ◌∙◌, arith}
+use Rattle.std.proofs.Common.{◌≡◌, ◌<◌, ◌+◌, suc, ◌++◌, length, drop, map, set, sym, ap, subst, ◌∙◌, arith}
 use Rattle.std.specs.Arc.{arc_value}
 use Rattle.std.specs.List.{insert}
 use Rattle.std.proofs.lemmas.Result.{IfOk-weaker}
@@ -6,7 +6,7 @@ use Rattle.std.proofs.lemmas.List.{take-append-drop}
 use Rattle.std.proofs.Math.ListN.{length-map}
 use Rattle.lf_ptree.specs.Pages.{flat, HasPair, IsRebuilt}
 use Rattle.lf_ptree.specs.declared.root.Middle.{Middle}
-use Rattle.lf_ptree.specs.Roots.{mid_groups, HasFullPages}
+use Rattle.lf_ptree.specs.Roots.{mid_groups}
 use Rattle.lf_ptree.proofs.PagesLemmas.{set-rebuilt, halves-rebuilt}
 use Rattle.lf_ptree.proofs.RootsLemmas.{mids_set, mids_insert, full_front, full_back, full_has_pair, full_set, full_insert, flat-append}
 use Rattle.lf_ptree.proofs.root.with_middle.Goals as goal

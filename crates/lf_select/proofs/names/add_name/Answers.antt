@@ -1,0 +1,13 @@
+use Rattle.std.proofs.Common.{◌≡◌, ◌∙◌, ap, get_or, refl, rules}
+use Rattle.std.proofs.lemmas.Option.{slice_get_read}
+use Rattle.lf_select.proofs.Named.{name-added}
+use Rattle.lf_select.proofs.names.add_name.Goals as goal
+
+pub returns : goal.returns
+returns c =
+    let terms = c.args.table.now.terms in
+    let term = c.index-as_slice-place.result in
+    let item : term ≡ get_or terms c.args.place term = c.index-as_slice-place.is ∙ ap (λ xs. get_or xs c.args.place term) c.as_slice.ensures in
+    name-added c.args.table.now c.args.names.now c.insert.new.self c.args.place term
+    (slice_get_read terms _ c.args.place term refl c.requires.here item)
+    (search rules) c.requires.named

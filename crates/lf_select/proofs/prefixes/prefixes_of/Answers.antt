@@ -1,0 +1,8 @@
+use Rattle.std.proofs.Common.{arith}
+use Rattle.lf_select.proofs.prefixes.prefixes_of.Goals as goal
+
+pub add_prefix-requires-clause-grouped : goal.add_prefix-requires-clause-grouped
+add_prefix-requires-clause-grouped c = λ p term iri from at may its. c.loop-place.invariant.0 p term iri (omega arith) at may its
+
+pub returns : goal.returns
+returns c = λ p term iri from at may its. c.loop-place.invariant.0 p term iri (omega arith) at may its

@@ -1,0 +1,5 @@
+pub mod Learning
+pub mod Hearing
+pub mod Marks
+pub mod Walking
+pub mod Climbing

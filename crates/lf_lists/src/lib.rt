@@ -1,0 +1,12 @@
+//! Lists over any oracle: the cells of RDF lists and the values that they stand for.
+#![tactic(auto)]
+
+mod asking;
+mod cell;
+mod marks;
+mod proper;
+mod shape;
+
+pub use asking::{is_named, quads_out, quads_using};
+pub use cell::is_cell;
+pub use shape::is_nil;

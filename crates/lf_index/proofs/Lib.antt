@@ -1,0 +1,8 @@
+pub mod OrderLemmas
+pub mod SetLemmas
+pub mod ScanLemmas
+pub mod AnswerLemmas
+pub mod LoopLemmas
+pub mod IndexLemmas
+pub mod ApplyLemmas
+pub mod AskLemmas

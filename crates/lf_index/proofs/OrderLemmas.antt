@@ -1,0 +1,89 @@
+-- What the orders of terms and quads tell.
+use Rattle.std.proofs.Common.{◌≡◌, refl, ap, Option, Some, None, Ordering, Less, Equal, Greater}
+use Rattle.std.specs.Ordering.{ordering_then, nat_cmp}
+use Rattle.lf_rdf.specs.declared.term.Term.{Term}
+use Rattle.lf_rdf.specs.declared.quad.Quad.{Quad}
+use Rattle.lf_rdf.specs.Equality.{term_eq, quad_eq}
+use Rattle.def_datasets.specs.Order.{parts_cmp, term_parts}
+use Rattle.def_datasets.proofs.SortedLaws.{IsStrict}
+use Rattle.def_datasets.proofs.OrderLaws.{then_second, parts_tell, term_from_parts, term_decides, quad_decides}
+use Rattle.lf_index.specs.Numbers.{number_of}
+use Rattle.lf_index.specs.Orders.{term_order, label_order, subjects, predicates, objects, graphs, subject_order, object_order, graph_order}
+use Rattle.lf_index.specs.TotalOrders.{term_total, subject_total, object_total, graph_total}
+
+pub then_equal : (r : Ordering) → ordering_then r Equal ≡ r
+then_equal Less = refl
+then_equal Equal = refl
+then_equal Greater = refl
+
+pub then_first : (r s : Ordering) → ordering_then r s ≡ Equal → r ≡ Equal
+then_first Less s e = e
+then_first Equal s e = refl
+then_first Greater s e = e
+
+pub then_assoc : (r s t : Ordering) → ordering_then (ordering_then r s) t ≡ ordering_then r (ordering_then s t)
+then_assoc Less s t = refl
+then_assoc Equal s t = refl
+then_assoc Greater s t = refl
+
+-- ---- ties
+
+pub term_tells : (s t : Term) → term_order s t ≡ Equal → s ≡ t
+term_tells s t e =
+    term_from_parts s t (parts_tell (term_parts s) (term_parts t) (then_second (nat_cmp (number_of s) (number_of t)) (parts_cmp (term_parts s) (term_parts t)) e))
+
+pub label_tells : (s t : Option Term) → label_order s t ≡ Equal → s ≡ t
+label_tells None None e = refl
+label_tells None (Some t) e = absurd (cc)
+label_tells (Some s) None e = absurd (cc)
+label_tells (Some s) (Some t) e = ap Some (term_tells s t e)
+
+from_places : (q r : Quad) → subjects q r ≡ Equal → predicates q r ≡ Equal → objects q r ≡ Equal → graphs q r ≡ Equal → q ≡ r
+from_places q r s p o g =
+    let sub : q.subject ≡ r.subject = term_tells q.subject r.subject s in
+    let pre : q.predicate ≡ r.predicate = term_tells q.predicate r.predicate p in
+    let obj : q.object ≡ r.object = term_tells q.object r.object o in
+    let gra : q.graph ≡ r.graph = label_tells q.graph r.graph g in
+    λ i. record { subject = sub i; predicate = pre i; object = obj i; graph = gra i }
+
+-- ---- each order tells any two values apart
+
+pub term_strictly : IsStrict term_eq term_order
+term_strictly = record { total = term_total; tells = term_tells; decides = term_decides }
+
+pub subject_strictly : IsStrict quad_eq subject_order
+subject_strictly =
+    record {
+      total = subject_total;
+      tells = λ q r e.
+          let three = then_first (ordering_then (ordering_then (subjects q r) (graphs q r)) (predicates q r)) (objects q r) e in
+          let two = then_first (ordering_then (subjects q r) (graphs q r)) (predicates q r) three in
+          from_places q r (then_first (subjects q r) (graphs q r) two) (then_second (ordering_then (subjects q r) (graphs q r)) (predicates q r) three)
+          (then_second (ordering_then (ordering_then (subjects q r) (graphs q r)) (predicates q r)) (objects q r) e) (then_second (subjects q r) (graphs q r) two);
+      decides = quad_decides;
+    }
+
+pub object_strictly : IsStrict quad_eq object_order
+object_strictly =
+    record {
+      total = object_total;
+      tells = λ q r e.
+          let three = then_first (ordering_then (ordering_then (objects q r) (predicates q r)) (graphs q r)) (subjects q r) e in
+          let two = then_first (ordering_then (objects q r) (predicates q r)) (graphs q r) three in
+          from_places q r (then_second (ordering_then (ordering_then (objects q r) (predicates q r)) (graphs q r)) (subjects q r) e)
+          (then_second (objects q r) (predicates q r) two) (then_first (objects q r) (predicates q r) two)
+          (then_second (ordering_then (objects q r) (predicates q r)) (graphs q r) three);
+      decides = quad_decides;
+    }
+
+pub graph_strictly : IsStrict quad_eq graph_order
+graph_strictly =
+    record {
+      total = graph_total;
+      tells = λ q r e.
+          let three = then_first (ordering_then (ordering_then (graphs q r) (subjects q r)) (predicates q r)) (objects q r) e in
+          let two = then_first (ordering_then (graphs q r) (subjects q r)) (predicates q r) three in
+          from_places q r (then_second (graphs q r) (subjects q r) two) (then_second (ordering_then (graphs q r) (subjects q r)) (predicates q r) three)
+          (then_second (ordering_then (ordering_then (graphs q r) (subjects q r)) (predicates q r)) (objects q r) e) (then_first (graphs q r) (subjects q r) two);
+      decides = quad_decides;
+    }

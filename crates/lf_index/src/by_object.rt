@@ -1,0 +1,95 @@
+//! Rows in order of object, predicate, graph and subject.
+ghost use Rattle.std.specs.Prelude.{◌≡◌};
+ghost use Rattle.std.specs.Arc.{arc_value};
+
+use crate::row::Row;
+use crate::scan::Keyed;
+use std::cmp::Ordering;
+use std::marker::Model;
+use std::sync::Arc;
+
+/// A row that stands by its object first.
+#[derive(Drop)]
+pub struct ByObject {
+    row: Arc<Row>,
+}
+
+impl Model for ByObject {
+    ghost use Rattle.std.specs.Arc.{arc_value};
+    ghost use Rattle.lf_rdf.specs.declared.quad.Quad.{Quad};
+
+    ghost Value = { Quad };
+
+    ghost view = { λ k. arc_value k.row };
+}
+
+impl ByObject {
+    /// The key of a row.
+    pub fn of(row: Arc<Row>) -> ByObject
+        ensures { result ≡ arc_value row }
+    {
+        ByObject { row }
+    }
+}
+
+impl Keyed for ByObject {
+    ghost quad = { λ q. q };
+
+    fn row(&self) -> &Row {
+        &self.row
+    }
+}
+
+impl PartialEq for ByObject {
+    ghost use Rattle.std.specs.Ordering.{eq_by_cmp};
+    ghost use Rattle.lf_index.specs.Orders.{object_order};
+    ghost use Rattle.lf_index.specs.TotalOrders.{object_equivalence};
+    ghost use Rattle.std.specs.Cmp.{partial_equiv_from_equiv};
+
+    ghost eq = { eq_by_cmp object_order };
+
+    ghost laws = { partial_equiv_from_equiv object_equivalence };
+
+    fn eq(&self, other: &ByObject) -> bool {
+        self.cmp(other).is_eq()
+    }
+}
+
+impl Eq for ByObject {
+    ghost use Rattle.lf_index.specs.TotalOrders.{object_equivalence};
+
+    ghost laws = { object_equivalence };
+}
+
+impl PartialOrd for ByObject {
+    ghost use Rattle.std.specs.Ordering.{as_partial_cmp};
+    ghost use Rattle.std.specs.Cmp.{partial_order_from_total};
+    ghost use Rattle.lf_index.specs.Orders.{object_order};
+    ghost use Rattle.lf_index.specs.TotalOrders.{object_total};
+
+    ghost partial_cmp = { as_partial_cmp object_order };
+
+    ghost laws = { partial_order_from_total object_total };
+
+    fn partial_cmp(&self, other: &ByObject) -> Option<Ordering> {
+        Some(self.cmp(other))
+    }
+}
+
+impl Ord for ByObject {
+    ghost use Rattle.std.proofs.Common.{refl};
+    ghost use Rattle.lf_index.specs.Orders.{object_order};
+    ghost use Rattle.lf_index.specs.TotalOrders.{object_total};
+
+    ghost cmp = { object_order };
+
+    ghost total = { object_total };
+
+    ghost matches_partial_cmp = { λ x y. refl };
+
+    ghost matches_eq = { λ x y. refl };
+
+    fn cmp(&self, other: &ByObject) -> Ordering {
+        self.row.object_order(&other.row)
+    }
+}

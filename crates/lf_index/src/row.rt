@@ -1,0 +1,133 @@
+//! The four shared terms of a quad, and how two rows stand in each order.
+ghost use Rattle.std.specs.Prelude.{◌≡◌, IfOk};
+ghost use Rattle.std.specs.Option.{option_copied};
+ghost use Rattle.lf_index.specs.Orders.{graph_order, object_order, subject_order};
+
+use crate::recent::Recent;
+use crate::shared::{Shared, label_order};
+use lf_base::{Memory, TryCopy};
+use lf_rdf::{Quad, Term};
+use std::alloc::Global;
+use std::cmp::Ordering;
+use std::marker::Model;
+
+/// A quad whose terms are shared. It stands in all orders of all versions that have it.
+#[derive(Drop)]
+pub struct Row {
+    pub subject: Shared,
+    pub predicate: Shared,
+    pub object: Shared,
+    pub graph: Option<Shared>,
+}
+
+impl Model for Row {
+    ghost use Rattle.lf_rdf.specs.declared.quad.Quad.{Quad};
+
+    ghost Value = { Quad };
+
+    ghost view = { λ r. record { subject = r.subject; predicate = r.predicate; object = r.object; graph = r.graph } };
+}
+
+impl Row {
+    /// The row of a quad.
+    pub fn of(alloc: Global, quad: &Quad) -> Result<Row, Memory>
+        ensures { IfOk result (λ row. row ≡ quad.now) }
+    {
+        Ok(Row {
+            subject: Shared::of(alloc, &quad.subject)?,
+            predicate: Shared::of(alloc, &quad.predicate)?,
+            object: Shared::of(alloc, &quad.object)?,
+            graph: shared_label(alloc, quad.graph.as_ref())?,
+        })
+    }
+
+    /// The row of a quad, whose terms are shared with other rows where they came lately.
+    pub fn through(alloc: Global, recent: &mut Recent, quad: &Quad) -> Result<Row, Memory>
+        ensures { IfOk result (λ row. row ≡ quad.now) }
+    {
+        Ok(Row {
+            subject: recent.shared(alloc, &quad.subject)?,
+            predicate: recent.shared(alloc, &quad.predicate)?,
+            object: recent.shared(alloc, &quad.object)?,
+            graph: recent_label(alloc, recent, &quad.graph)?,
+        })
+    }
+
+    /// The quad.
+    pub fn quad(&self, alloc: Global) -> Result<Quad, Memory>
+        ensures { IfOk result (λ quad. quad ≡ self.now) }
+    {
+        Ok(Quad {
+            subject: self.subject.term().copy(alloc)?,
+            predicate: self.predicate.term().copy(alloc)?,
+            object: self.object.term().copy(alloc)?,
+            graph: label(alloc, &self.graph)?,
+        })
+    }
+
+    /// By subject, graph, predicate and object.
+    pub fn subject_order(&self, other: &Row) -> Ordering
+        ensures { result ≡ subject_order self.now other.now }
+    {
+        self.subject
+            .order(&other.subject)
+            .then_with(|| label_order(&self.graph, &other.graph))
+            .then_with(|| self.predicate.order(&other.predicate))
+            .then_with(|| self.object.order(&other.object))
+    }
+
+    /// By object, predicate, graph and subject.
+    pub fn object_order(&self, other: &Row) -> Ordering
+        ensures { result ≡ object_order self.now other.now }
+    {
+        self.object
+            .order(&other.object)
+            .then_with(|| self.predicate.order(&other.predicate))
+            .then_with(|| label_order(&self.graph, &other.graph))
+            .then_with(|| self.subject.order(&other.subject))
+    }
+
+    /// By graph, subject, predicate and object.
+    pub fn graph_order(&self, other: &Row) -> Ordering
+        ensures { result ≡ graph_order self.now other.now }
+    {
+        label_order(&self.graph, &other.graph)
+            .then_with(|| self.subject.order(&other.subject))
+            .then_with(|| self.predicate.order(&other.predicate))
+            .then_with(|| self.object.order(&other.object))
+    }
+}
+
+/// A shared label, where there is one.
+pub fn shared_label(alloc: Global, label: Option<&Term>) -> Result<Option<Shared>, Memory>
+    ensures { IfOk result (λ shared. shared ≡ option_copied label.entry) }
+{
+    match label {
+        Some(name) => Ok(Some(Shared::of(alloc, name)?)),
+        None => Ok(None),
+    }
+}
+
+// A shared label, where there is one.
+fn recent_label(
+    alloc: Global,
+    recent: &mut Recent,
+    label: &Option<Term>,
+) -> Result<Option<Shared>, Memory>
+    ensures { IfOk result (λ shared. shared ≡ label.now) }
+{
+    match label {
+        Some(name) => Ok(Some(recent.shared(alloc, name)?)),
+        None => Ok(None),
+    }
+}
+
+// A copy of a label, where there is one.
+fn label(alloc: Global, shared: &Option<Shared>) -> Result<Option<Term>, Memory>
+    ensures { IfOk result (λ label. label ≡ shared.now) }
+{
+    match shared {
+        Some(name) => Ok(Some(name.term().copy(alloc)?)),
+        None => Ok(None),
+    }
+}

@@ -1,0 +1,65 @@
+//! Scans of the rows of an order, from a place on as far as a question reaches.
+ghost use Rattle.std.specs.Prelude.{◌≡◌, IfOk, map};
+ghost use Rattle.lf_ptree.specs.Ranges.{pairs_left};
+ghost use Rattle.lf_index.specs.Reach.{nodes_reached, reached};
+
+use crate::lined::Lined;
+use crate::named_by_id::{ById, put_nodes};
+use crate::reach::{answers_to, reaches};
+use crate::row::Row;
+use lf_base::Memory;
+use lf_ptree::Pairs;
+use lf_rdf::Question;
+use std::alloc::Global;
+
+/// A key that holds a row.
+pub trait Keyed {
+    ghost use Rattle.lf_rdf.specs.declared.quad.Quad.{Quad};
+
+    /// The quad of the row.
+    ghost quad: { Self → Quad };
+
+    /// The row.
+    fn row(&self) -> &Row
+        ensures { result.now ≡ quad self.now };
+}
+
+/// The quads of a scan that answer a question.
+pub fn quads_reached<K: Keyed>(
+    alloc: Global,
+    pairs: Pairs<'_, K, ()>,
+    question: &Question,
+) -> Result<Vec<Lined>, Memory>
+    ensures { IfOk result (λ found. found.items ≡ reached question.now (map (λ e. K.quad e.0) (pairs_left pairs.entry))) }
+{
+    let mut found = Vec::new(alloc);
+    for pair in pairs {
+        let row = pair.0.row();
+        if !reaches(question, row) {
+            return Ok(found);
+        }
+        if answers_to(question, row) {
+            found.push(Lined::of(alloc, row)?)?;
+        }
+    }
+    Ok(found)
+}
+
+/// The nodes of the quads of a scan.
+pub fn nodes_reached<K: Keyed>(
+    alloc: Global,
+    pairs: Pairs<'_, K, ()>,
+    question: &Question,
+) -> Result<Vec<ById>, Memory>
+    ensures { IfOk result (λ found. found.items ≡ nodes_reached question.now (map (λ e. K.quad e.0) (pairs_left pairs.entry))) }
+{
+    let mut found = Vec::new(alloc);
+    for pair in pairs {
+        let row = pair.0.row();
+        if !reaches(question, row) {
+            return Ok(found);
+        }
+        put_nodes(alloc, &mut found, row)?;
+    }
+    Ok(found)
+}

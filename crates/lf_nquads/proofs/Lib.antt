@@ -1,2 +1,16 @@
 pub mod FirstLoop
 pub mod WrittenProofs
+pub mod AsRead
+pub mod Places
+pub mod Hex
+pub mod Parts
+pub mod LabelProofs
+pub mod TagProofs
+pub mod Walks
+pub mod FrontWalks
+pub mod EscapeWalks
+pub mod PartWalks
+pub mod LineWalk
+pub mod PatchProofs
+pub mod Readers
+pub mod Told

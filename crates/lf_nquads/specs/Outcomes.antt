@@ -28,31 +28,39 @@ part_of text (Some x) = Ok x
 
 -- ---- IRIs and strings
 
--- the characters before `>`, which are at most so many
-unfoldable pub iri_parts_of : ℕ → Allowed → List ℕ → Result (List ℕ × List ℕ) LineKind
-iri_parts_of zero allowed text = Err Syntax
-iri_parts_of (suc room) allowed text =
-    if starts 62 text then Ok ([], text)
-    else (part_of text (iri_part_at allowed text) >>= λ part. iri_parts_of room allowed part.1 >>= λ others. Ok (part.0 ∷ others.0, others.1))
+-- one character before others that were read
+abbrev pub with_char : ℕ → Result (List ℕ × List ℕ) LineKind → Result (List ℕ × List ℕ) LineKind
+with_char c (Ok read) = Ok (c ∷ read.0, read.1)
+with_char c (Err kind) = Err kind
+
+-- The characters of parts before this closing character, which are at most so many.
+unfoldable pub parts_of : ℕ → (List ℕ → Result (ℕ × List ℕ) LineKind) → ℕ → List ℕ → Result (List ℕ × List ℕ) LineKind
+parts_of close part zero text = Err Syntax
+parts_of close part (suc room) text =
+    if starts close text then Ok ([], text)
+    else (part text >>= λ first. with_char first.0 (parts_of close part room first.1))
+
+-- those of the whole text
+abbrev pub all_parts_of : ℕ → (List ℕ → Result (ℕ × List ℕ) LineKind) → List ℕ → Result (List ℕ × List ℕ) LineKind
+all_parts_of close part text = parts_of close part (suc (length text)) text
+
+abbrev pub iri_part_of : Allowed → List ℕ → Result (ℕ × List ℕ) LineKind
+iri_part_of allowed text = part_of text (iri_part_at allowed text)
+
+abbrev pub string_part_of : Allowed → List ℕ → Result (ℕ × List ℕ) LineKind
+string_part_of allowed text = part_of text (string_part_at allowed text)
 
 unfoldable pub iri_of : Allowed → List ℕ → Result (List ℕ × List ℕ) LineKind
 iri_of allowed text = do
   inside ← expected (after_char 60 text)
-  parts ← iri_parts_of (suc (length inside)) allowed inside
+  parts ← all_parts_of 62 (iri_part_of allowed) inside
   rest ← expected (after_char 62 parts.1)
   if allowed.iri parts.0 rest then Ok (encode_utf8_all parts.0, rest) else Err RelativeIri
-
--- the characters before `"`, which are at most so many
-unfoldable pub string_parts_of : ℕ → Allowed → List ℕ → Result (List ℕ × List ℕ) LineKind
-string_parts_of zero allowed text = Err Syntax
-string_parts_of (suc room) allowed text =
-    if starts 34 text then Ok ([], text)
-    else (part_of text (string_part_at allowed text) >>= λ part. string_parts_of room allowed part.1 >>= λ others. Ok (part.0 ∷ others.0, others.1))
 
 unfoldable pub string_of : Allowed → List ℕ → Result (List ℕ × List ℕ) LineKind
 string_of allowed text = do
   inside ← expected (after_char 34 text)
-  parts ← string_parts_of (suc (length inside)) allowed inside
+  parts ← all_parts_of 34 (string_part_of allowed) inside
   rest ← expected (after_char 34 parts.1)
   Ok (encode_utf8_all parts.0, rest)
 
@@ -78,9 +86,12 @@ suffix_of allowed value text =
     else if starts 64 (skip text) then (expected (tag_at (skip text)) >>= λ tag. Ok (Literal value rdf_lang_string (Some tag.0), tag.1))
     else Ok (Literal value xsd_string None, text)
 
+abbrev pub literal_of : Allowed → List ℕ → Result (Term × List ℕ) LineKind
+literal_of allowed text = string_of allowed text >>= λ value. suffix_of allowed value.0 value.1
+
 unfoldable pub object_of : Allowed → List ℕ → Result (Term × List ℕ) LineKind
 object_of allowed text =
-    if starts 34 text then (string_of allowed text >>= λ value. suffix_of allowed value.0 value.1) else node_of allowed text
+    if starts 34 text then literal_of allowed text else node_of allowed text
 
 -- ---- lines
 

@@ -1,11 +1,26 @@
-//! N-Quads texts (RDF 1.1 N-Quads): so far the lines of the first form.
+//! Patch texts and N-Quads (RDF 1.1 N-Quads), read and written.
 #![tactic(auto)]
 
+mod blank;
+mod characters;
+mod cursor;
+mod error;
+mod escape;
 mod first;
+mod iri;
+mod laws;
+mod literal;
+mod patch;
+mod statement;
 mod write;
 
+pub use error::LineErr;
 pub use first::read_first;
+pub use laws::each_text_is_told;
+pub use patch::read_patch;
 pub use write::write_quads;
 
+#[cfg(test)]
+mod first_tests;
 #[cfg(test)]
 mod tests;

@@ -1,0 +1,10 @@
+pub mod Each
+pub mod Expanded
+pub mod Lists
+pub mod Marks
+pub mod Named
+pub mod Order
+pub mod Placed
+pub mod Texts
+pub mod Turns
+pub mod Walks

@@ -1,0 +1,10 @@
+pub mod DraftView
+pub mod Kinds
+pub mod Maps
+pub mod Marks
+pub mod Parts
+pub mod Splits
+pub mod Stages
+pub mod Tables
+pub mod Turns
+pub mod Walks

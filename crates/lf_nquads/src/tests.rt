@@ -77,7 +77,7 @@ fn reads_lines_and_writes_them(rt: HostRuntime) -> Result<(), Fail> {
             "<a:b> <c:d> \"\0\"^^<e:f> .\n",
         ),
         (
-            "<a:b> <c:é> \"é\" _:é·.é..",
+            "<a:b> <c:é> \"é\" _:é·.é.",
             "+",
             "<a:b> <c:é> \"é\" _:é·.é .\n",
         ),

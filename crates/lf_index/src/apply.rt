@@ -19,8 +19,8 @@ const MOST_QUADS: u64 = 400_000;
 impl Index {
     /// The quads after a patch. This index stays.
     ///
-    /// Each line costs some log n comparisons in each of three orders, and some 2 KiB. Where there are no quads yet, the orders are
-    /// sorted at once, which costs a tenth of that.
+    /// Each line costs some log n comparisons in each of three orders for n quads, and copies three pages there. Where there are
+    /// no quads yet, the orders are sorted and built at once.
     #[tactic(auto, unfolding(def_histories::specs::Legal::most_quads))]
     pub fn apply(&self, alloc: Global, patch: &Patch) -> Result<Index, ApplyErr>
         ensures applied { IfOk result (IsApplied self.now patch.now.lines) }

@@ -13,6 +13,8 @@ mod stage;
 mod start;
 mod table;
 mod term;
+#[cfg(test)]
+mod tests;
 mod text;
 mod walk;
 

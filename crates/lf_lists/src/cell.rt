@@ -19,9 +19,10 @@ use std::alloc::Global;
 use std::collections::BTreeSet;
 use std::sync::ledger::Ledger;
 
-/// Whether a node is a cell of a graph: a list node that is shown as a part of a list and not as a node (JSON-LD 1.1 Processing
-/// Algorithms and API, section 8.1). The graph isn't the merged one. Only of blank nodes is anything asked. Over q quads the steps
-/// rise by at most `8 * (q + 1)`, also where the data is a ring.
+/// Whether a node is a cell of a graph: a list node that is shown as a part of a list and not as a
+/// node (JSON-LD 1.1 Processing Algorithms and API, section 8.1). The graph isn't the merged one.
+/// Only of blank nodes is anything asked. Over q quads the steps rise by at most `8 * (q + 1)`,
+/// also where the data is a ring.
 pub fn is_cell<O: Oracle, L: Ledger>(
     alloc: Global,
     oracle: &mut O,
@@ -43,8 +44,9 @@ pub fn is_cell<O: Oracle, L: Ledger>(
     Ok(false)
 }
 
-// Whether going back from a proper node, again and again to the subject of its one use, reaches a node that isn't proper. One
-// question is asked of each node that is passed, beside those of the walks.
+// Whether going back from a proper node, again and again to the subject of its one use, reaches a
+// node that isn't proper. One question is asked of each node that is passed, beside those of the
+// walks.
 fn climbs_out<O: Oracle, L: Ledger>(
     alloc: Global,
     oracle: &mut O,

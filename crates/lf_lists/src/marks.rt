@@ -8,7 +8,8 @@ use lf_rdf::Term;
 use std::alloc::Global;
 use std::collections::BTreeSet;
 
-/// Blank nodes that are marked, by their labels. A mark and a test take the time of a search in an ordered set.
+/// Blank nodes that are marked, by their labels. A mark and a test take the time of a search in an
+/// ordered set.
 pub(crate) type Marks = BTreeSet<Text>;
 
 /// Whether a node is marked.

@@ -16,9 +16,10 @@ use std::alloc::Global;
 use std::collections::BTreeSet;
 use std::sync::ledger::Ledger;
 
-/// Whether a term ends a list well: it is `rdf:nil`, or following `rdf:rest` from it through list nodes reaches `rdf:nil`
-/// (RDF Schema 1.1, section 5.2). `proper` marks nodes of which this is known; the nodes that were walked are marked too. Three
-/// questions are asked of each of these, and three more where the walk fails.
+/// Whether a term ends a list well: it is `rdf:nil`, or following `rdf:rest` from it through list
+/// nodes reaches `rdf:nil` (RDF Schema 1.1, section 5.2). `proper` marks nodes of which this is
+/// known; the nodes that were walked are marked too. Three questions are asked of each of these,
+/// and three more where the walk fails.
 pub(crate) fn ends_well<O: Oracle, L: Ledger>(
     alloc: Global,
     oracle: &mut O,
@@ -57,8 +58,8 @@ pub(crate) fn ends_well<O: Oracle, L: Ledger>(
     }
 }
 
-/// Whether a node is proper: a list node from which following `rdf:rest` through list nodes reaches `rdf:nil`. Marks and questions
-/// are as for the walk; of an IRI and a literal nothing is asked.
+/// Whether a node is proper: a list node from which following `rdf:rest` through list nodes reaches
+/// `rdf:nil`. Marks and questions are as for the walk; of an IRI and a literal nothing is asked.
 pub(crate) fn is_proper_node<O: Oracle, L: Ledger>(
     alloc: Global,
     oracle: &mut O,

@@ -150,7 +150,8 @@ fn has_one_rest(quads: &[Quad]) -> bool
     has_one(RDF_REST, quads)
 }
 
-// Whether these are the quads of a list node: one item, one rest and at most the type `rdf:List` (RDF Schema 1.1, section 5.2).
+// Whether these are the quads of a list node: one item, one rest and at most the type `rdf:List`
+// (RDF Schema 1.1, section 5.2).
 fn has_list_form(quads: &[Quad]) -> bool
     ensures { result ≡ has_list_form quads.now }
 {
@@ -226,7 +227,8 @@ fn blank_rest<O: Oracle, L: Ledger>(
     Ok(rest)
 }
 
-/// The rest of a node that has the form of a list node in a graph, and none of another. Only of a blank node is anything asked.
+/// The rest of a node that has the form of a list node in a graph, and none of another. Only of a
+/// blank node is anything asked.
 pub(crate) fn shaped_rest<O: Oracle, L: Ledger>(
     alloc: Global,
     oracle: &mut O,

@@ -1,1 +1,16 @@
 pub mod FirstFrame
+pub mod Gives
+pub mod LabelTest
+pub mod JsonTests
+pub mod PatternParts
+pub mod GivenData
+pub mod MeaningData
+pub mod KeptKeys
+pub mod DefaultParts
+pub mod PlaceData
+pub mod RowData
+pub mod ReadingData
+pub mod KeyData
+pub mod Numbers
+pub mod TopFrames
+pub mod ContextErrors

@@ -6,8 +6,6 @@ mod cell;
 mod marks;
 mod proper;
 mod shape;
-#[cfg(test)]
-mod tests;
 
 pub use asking::{is_named, quads_out, quads_using};
 pub use cell::is_cell;

@@ -1,3 +1,4 @@
+//! Laws of contexts: IRIs that stay, terms in order, and the causes of errors (JSON-LD 1.1 API, sections 4 and 5).
 ghost use Rattle.def_contexts.specs.ExpansionLaws.{KeywordsStay, TermsGiveTheirIri, AbsoluteTextsStay};
 ghost use Rattle.def_contexts.specs.TableLaws.{TermsAscend, TermsAreSound, VocabIsAbsolute, TableTermsGiveTheirIri};
 ghost use Rattle.def_contexts.specs.Circles.{CyclesAreCircles};

@@ -1,3 +1,4 @@
+//! Laws of list cells: the least such nodes, each used once.
 ghost use Rattle.def_datasets.specs.CellLaws.{ProperNodes, ProperNodesAreLeast, CellNodes, CellsAreLeast, RoundsSuffice, CellsAreProper, CellsAreUsedOnce};
 
 /// A proper node is one that is shaped and whose rest is `rdf:nil` or proper.

@@ -1,3 +1,4 @@
+//! Canonical texts tell terms and quads, and put them in order.
 ghost use Rattle.def_datasets.specs.Legible.{TextsTellTerms, LinesTellQuads, TextsOrderTerms, LinesOrderQuads, IdsTellNodes, IdsOrderNodes};
 
 /// Two legible terms of one canonical text are one.

@@ -1,3 +1,4 @@
+//! Nearness is the least set of terms that its rules give.
 ghost use Rattle.def_datasets.specs.NearLaws.{NearIsLeast, NearOfNear};
 
 /// The near terms are in each set that holds the term itself and that the steps of nearness don't leave.

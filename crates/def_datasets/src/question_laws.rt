@@ -1,3 +1,4 @@
+//! Laws of questions: a quad that doesn't touch one leaves its answer.
 ghost use Rattle.def_datasets.specs.QuestionLaws.{UntouchedAnswers, UntouchedByPatch, TouchingQuadsDecide, AnswersReply, TermsInOrder, MembersInOrder, TermsStandInQuads};
 
 /// Where no quad that is in exactly one of two datasets touches a question, both answer it alike.

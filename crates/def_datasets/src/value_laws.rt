@@ -1,3 +1,4 @@
+//! Laws of values: literals, references and the items of lists.
 ghost use Rattle.def_datasets.specs.ValueLaws.{LiteralValues, NilValue, ReferenceValues, CellValues, ItemsInOrder, StepsSuffice};
 
 /// The value of a literal is the literal.

@@ -1,3 +1,4 @@
+//! Laws of versions: what a patch adds and deletes, in any order of its lines.
 ghost use Rattle.def_datasets.specs.VersionLaws.{QuadsDecide, PatchKeepsOrder, PatchDecidesQuads, LinesInAnyOrder, IdlePatchChangesNothing, VersionsAreDatasets, NextVersion, VersionsStay};
 
 /// Two datasets with the same quads are one.

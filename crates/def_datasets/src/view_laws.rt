@@ -1,3 +1,4 @@
+//! Laws of node views: which nodes are keys, and what a key's view shows.
 ghost use Rattle.def_datasets.specs.ViewLaws.{KeysAreListed, KeysInOrder, MergedKeys, KeysHaveViews, ViewStepsSuffice, SharedObjects, TypesAreTold, TypesInOrder, PropertiesAreTold, PropertiesInOrder, ObjectsAreTold, ObjectsInOrder, PointingIsTold, PointingInOrder};
 
 /// The keys that are listed are those that the rule tells, and no others.

@@ -1,3 +1,4 @@
+//! Laws of compaction, pruning and documents (JSON-LD 1.1 API, section 6; JSON-LD 1.1 Framing, section 4.5).
 ghost use Rattle.def_documents.specs.Ordered.{CompactedIsOrdered};
 ghost use Rattle.def_documents.specs.Laws.{CountsAddUp, FirstExcessDecides, FirstLimitDecides, ItemsWithinLimit, KeysAreOfEntries, KeysAscend, PruningKeepsItems, PruningKeepsOthers, PruningMayBeIdle, PruningRemovesOnce, RefusedAsConfused, TextWithinLimit};
 

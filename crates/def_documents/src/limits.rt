@@ -1,3 +1,4 @@
+//! The limits on a document, as programs call them.
 ghost use Rattle.std.specs.Prelude.{◌≡◌};
 ghost use Rattle.def_documents.specs.Document;
 

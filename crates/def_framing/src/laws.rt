@@ -1,3 +1,4 @@
+//! Laws of matching and embedding (JSON-LD 1.1 Framing, sections 4.2.2 and 4.2.3).
 ghost use Rattle.def_framing.specs.Laws.{WildAcceptsAll, NodeFrameAcceptsMatches, EmptyMatchesKeys, MatchedIsKey, PathIsLeftAlone, OnceIsOnce, NeverIsNever, EnteredGraphIsNew, CountsItsItems, TreeIsWithinLimit, RoomIsEnough, PresentIsRefused, TreeIsWithinDepth, SameViewsSameTree};
 
 /// A wildcard accepts every value.

@@ -1,3 +1,4 @@
+//! Laws of histories: legal ones, their versions, live frames and publications.
 ghost use Rattle.def_histories.specs.HistoryLaws.{PrefixIsLegal, AllowedIsLegal, DatasetsStay, CommitMakesVersion, PatchLinesInAnyOrder, PatchTextsInAnyOrder, OnlyCommitsMakeVersions, TextNumbersRise, LiveFramesStep, LiveOnceRegistered, GoneOnceRetired, OthersStayLive, AbsentUntilRegistered, PublishedWasCommitted, LiveIsNamed, PublishedIsLast};
 ghost use Rattle.def_histories.specs.Jobs.{FittingBoardsAreVersions, FittingJobsFitOn, TextNumbersAreOne};
 

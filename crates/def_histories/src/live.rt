@@ -1,3 +1,4 @@
+//! A live frame: its text, its number and what was published of it.
 use lf_base::Text;
 
 /// A frame that is live under a name.

@@ -1,3 +1,4 @@
+//! The operations that a history lists.
 use lf_base::{ListOf, Memory, Text, TryCopy};
 use lf_rdf::Patch;
 use std::alloc::Global;

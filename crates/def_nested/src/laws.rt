@@ -1,3 +1,4 @@
+//! A numbered frame unfolds to one nested frame.
 ghost use Rattle.def_nested.specs.Laws.{IsBuiltFromItsRow, IsMatchNonePastTheTable};
 
 /// What a number of a table stands for is built from its map and from what larger numbers stand for.

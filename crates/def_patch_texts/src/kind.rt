@@ -1,3 +1,4 @@
+//! What can be wrong with a line.
 /// What is wrong with the first bad line of a patch text.
 #[derive(Clone, Copy, Debug, PartialEq, Eq)]
 pub enum LineKind {

@@ -1,3 +1,4 @@
+//! Laws of patch texts: one reading, one first bad line with one kind (RDF 1.1 N-Quads, section 4).
 ghost use Rattle.def_patch_texts.specs.Laws.{OneList, NeverBoth, OneBadLine, CanonicalStates, CanonicalIsOne, LineRead, EachText, EachKind, StatesGiven, WorkedBadLines, LongLineIsBad};
 
 /// A text states at most one list of signed quads.

@@ -1,3 +1,4 @@
+//! Laws of scratch documents: the document of a frame's text is that of the frame that is read from it.
 ghost use Rattle.def_scratch.specs.FrameRows.{WorkedFrame};
 ghost use Rattle.def_scratch.specs.Laws.{FrameErrorsDecide, FrameGivesDocumentOfItsMeaning, FrameGivesDocumentOfItsText, OutcomesGiveTheDocument, SameViewsSameDocument};
 

@@ -1,3 +1,4 @@
+//! Laws of term selection and IRI compaction (JSON-LD 1.1 API, sections 6.2 and 6.3).
 ghost use Rattle.def_selection.specs.RoundTrip.{ExpansionGivesBack};
 ghost use Rattle.def_selection.specs.Laws.{ChosenFits, ChosenIsLeast, NoneFits, OnlyConfused, ShortTellsIri};
 

@@ -1,3 +1,4 @@
+//! What a value asks of a term: containers, the kind of slot and the slots in order of preference.
 ghost use Rattle.std.specs.Prelude.{◌≡◌, IfOk};
 ghost use Rattle.def_selection.specs.Iris.{no_value};
 

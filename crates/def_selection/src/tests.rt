@@ -1,3 +1,4 @@
+//! What an IRI alone asks of a term.
 use crate::{Pick, PickKind};
 use lf_model::Container;
 use std::test::Fail;

@@ -1,3 +1,5 @@
+//! Copies that may want memory, and equality that clauses can speak of: `TryCopy` and `Same`, for plain values and
+//! options.
 ghost use Rattle.std.specs.Prelude.{◌≡◌, ◌↔◌, IfOk, IsTrue};
 
 use crate::memory::Memory;

@@ -1,3 +1,4 @@
+//! The counter of questions; its only change is one tick.
 ghost use Rattle.std.specs.Prelude.{◌≡◌, ◌+◌, ◌<◌};
 
 use std::marker::Model;

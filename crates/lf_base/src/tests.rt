@@ -1,3 +1,4 @@
+//! Texts and lists that are copied and compared.
 use crate::{ListOf, Same, Text, TextList, TryCopy};
 use std::test::Fail;
 

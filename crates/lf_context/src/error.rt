@@ -1,3 +1,4 @@
+//! Why a context is refused.
 use lf_base::Memory;
 use lf_model::LdError;
 use thiserror::Error;

@@ -1,3 +1,4 @@
+//! A value of each type that is copied under its one name.
 use crate::{
     CommitErr, Container, Counted, DefaultList, DefaultValue, Doc, Embed, Frame, FrameKind,
     FrameNode, FrameNodeList, FrameProp, FramePropList, FrameReverse, FrameReverseList, FramedNow,

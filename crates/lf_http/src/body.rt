@@ -1,3 +1,4 @@
+//! The body of a message, read into the buffers (RFC 9112, section 6).
 ghost use Rattle.std.specs.Prelude.{◌≡◌, ◌+◌, ◌-◌, ◌^◌, ◌<◌, ◌≤◌, ◌++◌, ℕ, List, Some, length, OnOk, OnErr, Err, IsErrOf, vec_capacity};
 ghost use Rattle.lf_io.specs.Bytes.{prepended, HasEnded};
 ghost use Rattle.lf_http.specs.Bodies.{ReadsBody, count_after_body};

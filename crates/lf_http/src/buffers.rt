@@ -1,3 +1,4 @@
+//! The memory of one stream: bytes that wait, the last name, body and reply.
 ghost use Rattle.std.specs.Prelude.{◌≡◌, ◌≤◌, [], length, drop, vec_capacity, IfOk, IsTrue};
 ghost use Rattle.lf_http.specs.Reply.{is_named, reply_text};
 

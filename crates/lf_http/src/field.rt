@@ -1,3 +1,4 @@
+//! Header lines by their names (RFC 9110, section 5.1).
 ghost use Rattle.std.specs.Prelude.{◌≡◌, ◌≤◌, length, map};
 ghost use Rattle.httparse.specs.Spans.{header_bytes, span_bytes};
 ghost use Rattle.lf_http.specs.Fields.{same_name, values};

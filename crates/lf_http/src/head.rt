@@ -1,3 +1,4 @@
+//! What a head says, and why one is refused.
 use thiserror::Error;
 
 /// The method of a request (RFC 9110, section 9).

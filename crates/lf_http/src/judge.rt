@@ -1,3 +1,4 @@
+//! A head that `httparse` read is judged: its first refusal, or what it says.
 ghost use Rattle.std.specs.Prelude.{◌≡◌, ◌≤◌, ℕ, length, map};
 ghost use Rattle.std.specs.List.{list_all, list_any};
 ghost use Rattle.httparse.specs.Grammar.{RequestHead};

@@ -1,3 +1,4 @@
+//! The next head of a stream; the session calls it.
 ghost use Rattle.std.specs.Prelude.{◌≡◌, ◌<◌, ◌≤◌, ◌++◌, ℕ, List, [], length, string_bytes, Ok, Err, Some, None, OnOk, OnSome, IfOk, IfErr, IfSome, OnErr, IsUtf8};
 ghost use Rattle.std.specs.String.{string_capacity};
 ghost use Rattle.httparse.specs.Grammar.{RequestHead, IsRequestHead, ReadsRequest, print_request};

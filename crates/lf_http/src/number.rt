@@ -1,3 +1,4 @@
+//! Decimal numbers of 1 to 18 digits in header values.
 ghost use Rattle.std.specs.Prelude.{◌≡◌, ◌≤◌, map, IsTrue};
 ghost use Rattle.std.specs.Char.{is_ascii_digit, digit_value};
 ghost use Rattle.std.specs.List.{list_all};

@@ -1,3 +1,4 @@
+//! Pieces of a head are taken until `httparse` knows it whole, refuses it or a limit is passed.
 ghost use Rattle.std.specs.Prelude.{◌≡◌, ◌+◌, ◌<◌, ◌≤◌, ℕ, List, Option, [], length, take, vec_capacity, Ok, None, IfOk, IfErr, IfSome, OnOk, OnErr};
 ghost use Rattle.httparse.specs.Grammar.{RequestHead, ReadsRequest};
 ghost use Rattle.httparse.specs.Spans.{IsRequestOf, IsRequestWithin};

@@ -1,3 +1,4 @@
+//! Reply heads, written into the buffers (RFC 9112, section 4).
 ghost use Rattle.std.specs.Prelude.{◌≡◌, ◌+◌, ◌≤◌, ◌++◌, [], length, decimal, IsTrue, Some};
 ghost use Rattle.lf_http.specs.Reply.{reason as reason_of, is_named, reply_text, status_text, media_text, allow_text, version_line, version_text, close_text, length_text, crlf};
 

@@ -1,3 +1,4 @@
+//! Heads and bodies in any pieces, each refusal and its cause, and reply heads.
 ghost use Rattle.std.specs.Prelude.{◌<◌, IsTrue};
 ghost use Rattle.lf_http.specs.Reply.{is_named};
 

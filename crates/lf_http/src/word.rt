@@ -1,3 +1,4 @@
+//! Words in a list that commas part (RFC 9110, section 5.6.1).
 ghost use Rattle.std.specs.Prelude.{◌≡◌, reverse, map};
 ghost use Rattle.std.specs.List.{list_any};
 ghost use Rattle.httparse.specs.Grammar.{is_ows, skip_ows, trim_ows};

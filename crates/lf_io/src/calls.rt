@@ -1,3 +1,4 @@
+//! The calls that an object in memory was told to fail, counted as they come.
 ghost use Rattle.std.specs.Prelude.{◌≡◌, ◌↔◌, IsErr, IsTrue};
 
 use crate::failed::{Failed, one_more};

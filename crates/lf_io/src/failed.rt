@@ -1,3 +1,4 @@
+//! The answer of a call to the outside that failed.
 ghost use Rattle.std.specs.Prelude.{◌≡◌};
 ghost use Rattle.lf_io.specs.Faults.{risen};
 

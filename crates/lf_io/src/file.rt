@@ -1,3 +1,4 @@
+//! A file in memory: its name and its bytes.
 ghost use Rattle.std.specs.Prelude.{◌≡◌};
 
 use lf_base::{ListOf, Text};

@@ -1,3 +1,4 @@
+//! The shelf of the file system.
 ghost use Rattle.std.specs.Prelude.{◌≡◌, ◌<◌, ◌≤◌, ℕ, List, length, None, IfOk, IsErrOf};
 
 use crate::failed::one_more;

@@ -1,3 +1,4 @@
+//! A shelf in memory, for tests.
 ghost use Rattle.std.specs.Prelude.{◌≡◌, ◌↔◌, ◌||◌, ◌<◌, ◌≤◌, List, ℕ, length, Some, IsTrue, IfOk, IsErrOf, is_none};
 
 use crate::calls::Calls;

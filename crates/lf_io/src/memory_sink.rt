@@ -1,3 +1,4 @@
+//! A sink in memory, which takes its room when it is made.
 ghost use Rattle.std.specs.Prelude.{◌≡◌, ◌↔◌, ◌-◌, ◌||◌, ◌<◌, ◌≤◌, [], length, take, min, not, Some, IfOk, OnErr, IsErr, IsTrue, vec_capacity};
 
 use crate::calls::Calls;

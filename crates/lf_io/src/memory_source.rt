@@ -1,3 +1,4 @@
+//! A source in memory, which gives its bytes in pieces.
 ghost use Rattle.std.specs.Prelude.{◌≡◌, ◌↔◌, ◌+◌, ◌^◌, ◌<◌, ◌≤◌, [], length, take, drop, min, Some, IfOk, OnOk, OnErr, IsErr, IsTrue};
 
 use crate::calls::Calls;

@@ -1,3 +1,4 @@
+//! A source over std's `Read`.
 ghost use Rattle.std.specs.Prelude.{◌≡◌, ◌≤◌, length, None, IfSome};
 
 use crate::failed::{Failed, one_more};

@@ -1,3 +1,4 @@
+//! The trait of shelves, which give a file's bytes by its name.
 ghost use Rattle.std.specs.Prelude.{◌≡◌, ◌<◌, ◌≤◌, ℕ, List, length, Option, IfOk, IsErrOf};
 ghost use Rattle.lf_io.specs.declared.shelf.ShelfErr.TheVariants.{Memory};
 ghost use Rattle.lf_io.specs.Files.{Files, MayHold, is_there, count_after_take, refusals_after_take};

@@ -1,3 +1,4 @@
+//! The trait of sinks, and the writing of all bytes.
 ghost use Rattle.std.specs.Prelude.{◌≡◌, ◌<◌, ◌≤◌, ℕ, List, length, take, Option, IfOk, OnOk, OnErr};
 ghost use Rattle.lf_io.specs.Bytes.{appended};
 ghost use Rattle.lf_io.specs.Faults.{count_after};

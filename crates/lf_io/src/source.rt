@@ -1,3 +1,4 @@
+//! The trait of sources, and the reading of all bytes up to a limit.
 ghost use Rattle.std.specs.Prelude.{◌≡◌, ◌+◌, ◌^◌, ◌<◌, ◌≤◌, ℕ, List, [], length, take, Option, Some, IfOk, OnOk, OnErr, IsErrOf};
 ghost use Rattle.lf_io.specs.Bytes.{prepended, HasEnded};
 ghost use Rattle.lf_io.specs.Faults.{count_after};

@@ -1,3 +1,4 @@
+//! Sources, sinks and shelves in memory, over readers and writers that fail, and over files.
 ghost use Rattle.std.specs.Prelude.{◌≤◌, IfOk};
 
 use crate::{

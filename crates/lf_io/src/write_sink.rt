@@ -1,3 +1,4 @@
+//! A sink over std's `Write`.
 ghost use Rattle.std.specs.Prelude.{◌≡◌, ◌≤◌, length, None, IfSome};
 
 use crate::failed::{Failed, one_more};

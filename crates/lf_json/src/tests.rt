@@ -1,3 +1,4 @@
+//! What `serde_json` reads of numbers, keys and texts at their edges, and how deep.
 use crate::{JsonErr, has_fraction, read_json, text};
 use lf_base::{Memory, Text};
 use lf_model::Json;

@@ -1,3 +1,4 @@
+//! What a desk answers: refusals, looks, turns and notices.
 use crate::document::Doc;
 use crate::error::LdError;
 use lf_base::{ListOf, Memory, Text, TryCopy};

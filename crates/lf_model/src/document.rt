@@ -1,3 +1,4 @@
+//! Outcomes of terms, and documents, with the limits that they may pass.
 use crate::error::LdError;
 use crate::tree::Tree;
 use lf_base::{ListOf, Memory, Text, TryCopy};

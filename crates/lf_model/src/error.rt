@@ -1,3 +1,4 @@
+//! The errors of JSON-LD by their names (JSON-LD 1.1 API, section 9.6; JSON-LD 1.1 Framing, section 5.3).
 ghost use Rattle.std.specs.Prelude.{◌≡◌};
 ghost use Rattle.lf_model.specs.ErrorName.{NamesDiffer, name_of};
 

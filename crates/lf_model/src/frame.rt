@@ -1,3 +1,4 @@
+//! Frames as they are read: numbered maps, each sub-frame behind its parent (JSON-LD 1.1 Framing, section 4.1).
 use crate::json::Json;
 use crate::scalar::{Scalar, ScalarList};
 use crate::table::TermTable;

@@ -1,3 +1,4 @@
+//! Copies of frames.
 use crate::frame::{
     DefaultValue, Frame, FrameKind, FrameNode, FrameProp, FrameReverse, IdTest, PartTest, TypeTest,
     ValuePattern,

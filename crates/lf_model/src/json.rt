@@ -1,3 +1,4 @@
+//! JSON values, whose maps are in byte order of their keys.
 ghost use Rattle.std.specs.Prelude.{◌≡◌, IfOk};
 
 use lf_base::{ListOf, Memory, Text, TryCopy};

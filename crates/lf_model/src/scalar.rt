@@ -1,3 +1,4 @@
+//! Texts, whole numbers and truth values, which patterns and defaults hold.
 use lf_base::{ListOf, Memory, Same, Text, TryCopy};
 use std::alloc::Global;
 

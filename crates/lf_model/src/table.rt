@@ -1,3 +1,4 @@
+//! Term definitions of a context (JSON-LD 1.1 API, section 4.2).
 use lf_base::{ListOf, Memory, Text, TryCopy};
 use std::alloc::Global;
 

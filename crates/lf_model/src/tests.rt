@@ -1,3 +1,4 @@
+//! A value of each type that is copied, and the errors' names.
 use crate::{
     Counted, Doc, Json, JsonList, JsonMap, LdError, Limit, RegisterErr, Scalar, Tree, TreeList,
     TreeProp, TreePropList, TreeReverseList, TreeValue, TreeValueList, Value, ValueList,

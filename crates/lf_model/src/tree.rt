@@ -1,3 +1,4 @@
+//! Framed trees, before they are compacted.
 ghost use Rattle.std.specs.Prelude.{◌≡◌, IfOk};
 
 use crate::frame::DefaultValue;

@@ -1,3 +1,4 @@
+//! Views of nodes and the values of their properties.
 ghost use Rattle.std.specs.Prelude.{◌≡◌, IfOk};
 
 use lf_base::{ListOf, Memory, Text, TryCopy};

@@ -1,3 +1,4 @@
+//! Lines read and written, the first bad line, and the longest line.
 use super::*;
 use def_patch_texts::LineKind;
 use lf_base::Memory;

@@ -1,3 +1,4 @@
+//! Questions whose answer is yes or no; the crates of lists and of node views ask by it.
 ghost use Rattle.std.specs.Prelude.{◌≡◌, ◌+◌, [], ◌∷◌, IfOk, IsTrue, OnOk};
 ghost use Rattle.lf_rdf.specs.declared.question.Answer.TheVariants.{Flag, Quads, Terms};
 ghost use Rattle.def_datasets.specs.Questions.{answer};

@@ -1,3 +1,4 @@
+//! What was learnt by asking is exact, and stays where no quad of a patch touches a question.
 ghost use Rattle.lf_oracle.specs.Laws.{LearntIsExact, LearntStays};
 
 /// What was learnt by asking is what the dataset itself gives.

@@ -1,3 +1,4 @@
+//! Whether a graph has a quad, by one question.
 ghost use Rattle.std.specs.Prelude.{◌≡◌, IfOk};
 ghost use Rattle.def_datasets.specs.Questions.{named};
 ghost use Rattle.lf_oracle.specs.Asking.{Learns};

@@ -1,3 +1,4 @@
+//! The oracle of the empty dataset: the least implementor.
 ghost use Rattle.std.specs.Prelude.{◌≡◌, []};
 ghost use Rattle.def_datasets.specs.Questions.{answer};
 

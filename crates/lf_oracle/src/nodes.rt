@@ -1,3 +1,4 @@
+//! The trait of node views; matching and embedding call it.
 ghost use Rattle.std.specs.Prelude.{◌≡◌, ℕ, List, [], ◌∷◌, Option, IfOk, option_map};
 ghost use Rattle.lf_rdf.specs.declared.quad.Quad.{Quad};
 ghost use Rattle.lf_rdf.specs.declared.question.Question.{Question};

@@ -1,3 +1,4 @@
+//! The trait of oracles, which answer questions over a dataset.
 ghost use Rattle.std.specs.Prelude.{◌≡◌, ◌+◌, ℕ, List, [], ◌∷◌, Option, IfOk, IsTrue, OnOk};
 ghost use Rattle.lf_rdf.specs.declared.quad.Quad.{Quad};
 ghost use Rattle.lf_rdf.specs.declared.question.Question.{Question};

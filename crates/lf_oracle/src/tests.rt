@@ -1,3 +1,4 @@
+//! The empty dataset asked twice.
 ghost use Rattle.std.specs.Prelude.{◌≡◌, ◌<◌};
 
 use crate::{NoQuads, Oracle, names_graph};

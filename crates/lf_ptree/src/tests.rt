@@ -1,3 +1,4 @@
+//! Older versions stay, ranges end below their end, and versions move between threads.
 use crate::{PMap, Pairs, Range};
 use lf_base::Memory;
 use std::alloc::Global;

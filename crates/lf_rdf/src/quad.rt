@@ -1,3 +1,4 @@
+//! Quads, signed quads and patches (RDF 1.1 Concepts, section 4).
 use crate::term::Term;
 use lf_base::{ListOf, Memory, Same, TryCopy};
 use std::alloc::Global;

@@ -1,3 +1,4 @@
+//! What an oracle is asked, and what it answers.
 use crate::quad::QuadList;
 use crate::term::{Term, TermList};
 use lf_base::{ListOf, Memory, TryCopy};

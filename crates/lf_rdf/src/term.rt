@@ -1,3 +1,4 @@
+//! RDF terms: IRIs, blank nodes and literals (RDF 1.1 Concepts, section 3).
 use lf_base::{ListOf, Memory, Same, Text, TryCopy};
 use std::alloc::Global;
 

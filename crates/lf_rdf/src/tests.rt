@@ -1,3 +1,4 @@
+//! A value of each type that is copied.
 use crate::{Answer, GraphRef, Patch, Quad, Question, Signed, SignedList, Term, TermList};
 use lf_base::{Memory, Same, Text, TryCopy};
 use std::alloc::Global;

@@ -1,3 +1,4 @@
+//! An IRI that is shortened or confused, and the order in which terms are chosen.
 use crate::{Inverse, SelectErr, compact_iri};
 use def_selection::{Pick, PickKind};
 use lf_base::{ListOf, Memory, Text, TextList};

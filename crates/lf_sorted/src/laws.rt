@@ -1,3 +1,4 @@
+//! What putting a pair into a map in order of keys keeps and changes.
 ghost use Rattle.lf_sorted.specs.Laws.{PutIsFound, PutKeepsOrder, PutKeepsOthers};
 
 /// What `put` does to the entries of a map.

@@ -1,3 +1,4 @@
+//! A map as a list of pairs in byte order of its keys, each key once.
 ghost use Rattle.std.specs.Prelude.{◌≡◌, ◌↔◌, ◌<◌, [], length, slice_get, IfErr, IfOk, IsSome, IsTrue, OnOk, OnErr};
 ghost use Rattle.std.specs.Option.{option_copied};
 ghost use Rattle.lf_sorted.specs.Entries.{Ascends, put_entry, text_cmp, value_at};

@@ -1,3 +1,4 @@
+//! A map that is filled out of order.
 use crate::MapOf;
 use lf_base::{Text, TryCopy};
 use std::test::Fail;

@@ -1,3 +1,4 @@
+//! An id that stays since its label stands elsewhere too.
 use crate::{Counts, label_counts, tidy};
 use lf_base::{ListOf, Memory, Text};
 use lf_model::{Tree, TreeList};

@@ -22,11 +22,11 @@ told_twice : (one two : List Question) (told : Option (List Question)) → told_
 told_twice one two None = refl
 told_twice one two (Some before) = ap Some (append_assoc before one two)
 
-first_part : {X : Type 0} (P : X → Type 0) (xs ys : List X) → All P (xs ++ ys) → All P xs
+pub first_part : {X : Type 0} (P : X → Type 0) (xs ys : List X) → All P (xs ++ ys) → All P xs
 first_part P [] ys all = All-nil P
 first_part P (x ∷ xs) ys all = All-cons P x xs (All-head P x (xs ++ ys) all) (first_part P xs ys (All-tail P x (xs ++ ys) all))
 
-second_part : {X : Type 0} (P : X → Type 0) (xs ys : List X) → All P (xs ++ ys) → All P ys
+pub second_part : {X : Type 0} (P : X → Type 0) (xs ys : List X) → All P (xs ++ ys) → All P ys
 second_part P [] ys all = all
 second_part P (x ∷ xs) ys all = second_part P xs ys (All-tail P x (xs ++ ys) all)
 

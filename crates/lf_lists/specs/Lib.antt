@@ -3,3 +3,4 @@ pub mod Hearing
 pub mod Marks
 pub mod Walking
 pub mod Climbing
+pub mod Known

@@ -3,10 +3,12 @@
 
 mod asking;
 mod cell;
+mod known;
 mod marks;
 mod proper;
 mod shape;
 
 pub use asking::{is_named, quads_out, quads_using};
 pub use cell::is_cell;
+pub use known::KnownCells;
 pub use shape::is_nil;

@@ -1,0 +1,11 @@
+use Rattle.std.proofs.Common.{◌≡◌, drop}
+use Rattle.std.specs.List.{flat_map}
+use Rattle.def_datasets.specs.Sorted.{put_all}
+use Rattle.def_datasets.specs.Order.{id_cmp}
+use Rattle.def_datasets.specs.Terms.{label_terms}
+use Rattle.lf_plain.proofs.members.put_labels.Given as goal
+
+abbrev pub invariant-loop-quad : goal.invariant-loop-quad
+invariant-loop-quad l =
+    put_all id_cmp l.found.items (flat_map (λ q. label_terms q.graph) (drop l.quad-index l.quads))
+    ≡ put_all id_cmp l.initial.found.items (flat_map (λ q. label_terms q.graph) l.quads)

@@ -1,0 +1,9 @@
+//! The oracle of a plain list of quads, for tests and small datasets: each question walks the whole list.
+#![tactic(auto)]
+
+mod answers;
+mod members;
+mod order;
+mod plain;
+
+pub use plain::PlainQuads;

@@ -3,3 +3,7 @@ pub mod Groups
 pub mod Walks
 pub mod Steps
 pub mod Documents
+pub mod WalkProofs
+pub mod FormProofs
+pub mod FittingProofs
+pub mod DefaultProofs

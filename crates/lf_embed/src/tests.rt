@@ -1,6 +1,7 @@
-use crate::small_document;
+use crate::{Walk, small_document};
 use lf_base::{Memory, Text};
-use lf_rdf::{Quad, QuadList, Term};
+use lf_model::Embed;
+use lf_rdf::{GraphRef, Quad, QuadList, Term};
 use std::alloc::Global;
 use std::test::Fail;
 
@@ -79,5 +80,27 @@ fn nodes_types_and_values_stand_in_order(rt: HostRuntime) -> Result<(), Fail> {
         document.as_str(),
         "{\"@graph\":[{\"@id\":\"http://e/a\",\"@type\":[\"http://e/C\",\"http://e/T\"],\"http://e/p\":\"\\\"\\n\"},{\"@id\":\"http://e/b\",\"http://e/p\":[\"x!\",\"x\"]}]}"
     );
+    Ok(())
+}
+
+fn remembers(alloc: Global) -> Result<bool, Memory> {
+    let id = iri(alloc, "http://e/a")?;
+    let mut walk = Walk::new(alloc);
+    walk.enter(alloc, &GraphRef::Merged, &id)?;
+    let on_path = walk.is_on_path(&GraphRef::Merged, &id)
+        && !walk.is_on_path(&GraphRef::Default, &id)
+        && walk.is_referred(alloc, Embed::Always, &GraphRef::Merged, &id)?;
+    walk.leave();
+    let embedded = walk.is_referred(alloc, Embed::Once, &GraphRef::Merged, &id)?
+        && walk.is_referred(alloc, Embed::Never, &GraphRef::Default, &id)?
+        && !walk.is_referred(alloc, Embed::Once, &GraphRef::Default, &id)?
+        && !walk.is_referred(alloc, Embed::Always, &GraphRef::Merged, &id)?;
+    Ok(on_path && embedded && walk.is_outside(&id) && walk.count_item().is_ok())
+}
+
+#[test]
+fn a_walk_remembers_its_nodes(rt: HostRuntime) -> Result<(), Fail> {
+    let alloc = rt.alloc();
+    assert!(rt; remembers(alloc)?);
     Ok(())
 }

@@ -129,6 +129,14 @@ fn count_values(alloc: Global, counts: &mut Counts, values: &TreeValueList) -> R
     Ok(())
 }
 
+/// Counts the labels of one tree more. On `Memory` some of them may be counted.
+pub fn add_labels(alloc: Global, counts: &mut Counts, tree: &Tree) -> Result<(), Memory>
+    ensures { OnOk result ((label : List ℕ) → count_in counts.new label
+        ≡ count_in counts.old label + count_node label (tree_data tree.now)) }
+{
+    count_tree(alloc, counts, tree)
+}
+
 /// How often each blank node label stands in all trees of a document: at the id of a node or reference, in a reference of a
 /// default, and among types (JSON-LD 1.1 Framing, section 4.2). Its time grows as n log n in the items.
 pub fn label_counts(alloc: Global, trees: &TreeList) -> Result<Counts, Memory>

@@ -7,6 +7,6 @@ mod prune;
 #[cfg(test)]
 mod tests;
 
-pub use count::label_counts;
+pub use count::{add_labels, label_counts};
 pub use counts::Counts;
 pub use prune::tidy;

@@ -5,5 +5,7 @@ mod answers;
 mod members;
 mod order;
 mod plain;
+mod words;
 
 pub use plain::PlainQuads;
+pub use words::term_of;

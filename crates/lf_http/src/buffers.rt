@@ -1,6 +1,7 @@
 //! The memory of one stream: bytes that wait, the last name, body and reply.
 ghost use Rattle.std.specs.Prelude.{◌≡◌, ◌≤◌, [], length, drop, vec_capacity, IfOk, IsTrue};
 ghost use Rattle.lf_http.specs.Reply.{is_named, reply_text};
+ghost use Rattle.lf_http.specs.Reading.{longest_head, most_lines};
 
 use crate::reply::{ReplyBytes, ReplyHead, write_reply};
 use arrayvec::ArrayVec;
@@ -28,14 +29,15 @@ pub struct Buffers {
 impl Model for Buffers {
     ghost use Rattle.std.specs.Prelude.{◌≡◌, ◌≤◌, length, vec_capacity, string_bytes};
     ghost use Rattle.std.specs.String.{string_capacity};
+    ghost use Rattle.lf_http.specs.Reading.{longest_head, most_lines};
     ghost use Rattle.lf_http.specs.Shown.{Shown};
 
     ghost Value = { Shown };
 
     ghost view = { λ b. record { pending = b.pending.items; name = string_bytes b.name; body = b.body.items; reply = b.reply.items } };
 
-    ghost invariant = { λ b. (16384 ≤ vec_capacity b.pending) × (length b.pending.items ≤ 16384)
-        × (length b.lines.items ≡ 64) × (16384 ≤ string_capacity b.name) };
+    ghost invariant = { λ b. (longest_head ≤ vec_capacity b.pending) × (length b.pending.items ≤ longest_head)
+        × (length b.lines.items ≡ most_lines) × (longest_head ≤ string_capacity b.name) };
 }
 
 impl Buffers {

@@ -2,6 +2,7 @@
 ghost use Rattle.std.specs.Prelude.{◌≡◌, ◌≤◌, length, map};
 ghost use Rattle.httparse.specs.Spans.{header_bytes, span_bytes};
 ghost use Rattle.lf_http.specs.Fields.{same_name, values};
+ghost use Rattle.lf_http.specs.Reading.{most_lines};
 
 use arrayvec::ArrayVec;
 use httparse::spans::{HeaderSpan, Span};
@@ -27,7 +28,7 @@ pub(crate) fn bytes_of(buf: &[u8], span: Span) -> &[u8]
 
 /// The values of the lines of this name.
 pub(crate) fn values_of(buf: &[u8], lines: &[HeaderSpan], name: &[u8]) -> Values
-    requires { length lines.now ≤ 64 }
+    requires { length lines.now ≤ most_lines }
     ensures { map (span_bytes buf.now) result.items ≡ values name.now (map (header_bytes buf.now) lines.now) }
 {
     let mut found = ArrayVec::new();

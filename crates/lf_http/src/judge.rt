@@ -5,7 +5,7 @@ ghost use Rattle.httparse.specs.Grammar.{RequestHead};
 ghost use Rattle.httparse.specs.Spans.{header_bytes, span_bytes, IsRequestAt};
 ghost use Rattle.lf_http.specs.Fields.{is_number, values};
 ghost use Rattle.lf_http.specs.Judge.{method_of, target_of, judged, is_text, is_bad, needs_length, has_body, head_of, request_of, request_at, told_length};
-ghost use Rattle.lf_http.specs.Reading.{count_after_head};
+ghost use Rattle.lf_http.specs.Reading.{count_after_head, most_lines};
 
 use crate::field::{Values, bytes_of, values_of};
 use crate::head::{Head, HeadErr, Method, Target};
@@ -85,7 +85,7 @@ fn one_is(buf: &[u8], values: &Values, text: &[u8]) -> bool
 
 // How many lines have the name.
 fn count(buf: &[u8], lines: &[HeaderSpan], name: &[u8]) -> usize
-    requires { length lines.now ≤ 64 }
+    requires { length lines.now ≤ most_lines }
     ensures { result ≡ length (values name.now (map (header_bytes buf.now) lines.now)) }
 {
     values_of(buf, lines, name).len()
@@ -93,7 +93,7 @@ fn count(buf: &[u8], lines: &[HeaderSpan], name: &[u8]) -> usize
 
 // Whether the lines `Host` and `Content-Length` are refused.
 fn is_refused(buf: &[u8], spans: &RequestSpans, lines: &[HeaderSpan]) -> bool
-    requires { length lines.now ≤ 64 }
+    requires { length lines.now ≤ most_lines }
     ensures { result ≡ is_bad (request_at buf.now spans.now lines.now) }
 {
     (spans.version == 1 && count(buf, lines, b"host") != 1)
@@ -102,7 +102,7 @@ fn is_refused(buf: &[u8], spans: &RequestSpans, lines: &[HeaderSpan]) -> bool
 }
 
 fn read_length(buf: &[u8], spans: &RequestSpans, lines: &[HeaderSpan]) -> Option<u64>
-    requires { length lines.now ≤ 64 }
+    requires { length lines.now ≤ most_lines }
     ensures { result ≡ told_length (request_at buf.now spans.now lines.now) }
 {
     first_of(buf, &values_of(buf, lines, b"content-length"))
@@ -127,7 +127,7 @@ fn takes_body(method: Method, target: Target) -> bool
 }
 
 fn lacks_length(buf: &[u8], spans: &RequestSpans, lines: &[HeaderSpan], head: &Head) -> bool
-    requires few { length lines.now ≤ 64 }
+    requires few { length lines.now ≤ most_lines }
     requires method { head.now.method ≡ method_of (span_bytes buf.now spans.now.method) }
     requires target { head.now.target ≡ target_of (span_bytes buf.now spans.now.path) }
     ensures { result ≡ needs_length (request_at buf.now spans.now lines.now) }
@@ -137,7 +137,7 @@ fn lacks_length(buf: &[u8], spans: &RequestSpans, lines: &[HeaderSpan], head: &H
 }
 
 fn is_plain(buf: &[u8], spans: &RequestSpans, lines: &[HeaderSpan]) -> bool
-    requires { length lines.now ≤ 64 }
+    requires { length lines.now ≤ most_lines }
     ensures { result ≡ (head_of (request_at buf.now spans.now lines.now)).plain }
 {
     all_are(
@@ -148,35 +148,35 @@ fn is_plain(buf: &[u8], spans: &RequestSpans, lines: &[HeaderSpan]) -> bool
 }
 
 fn closes(buf: &[u8], spans: &RequestSpans, lines: &[HeaderSpan]) -> bool
-    requires { length lines.now ≤ 64 }
+    requires { length lines.now ≤ most_lines }
     ensures { result ≡ (head_of (request_at buf.now spans.now lines.now)).close }
 {
     spans.version == 0 || one_lists(buf, &values_of(buf, lines, b"connection"), b"close")
 }
 
 fn seen(buf: &[u8], spans: &RequestSpans, lines: &[HeaderSpan]) -> Option<u64>
-    requires { length lines.now ≤ 64 }
+    requires { length lines.now ≤ most_lines }
     ensures { result ≡ (head_of (request_at buf.now spans.now lines.now)).seen }
 {
     greatest_of(buf, &values_of(buf, lines, b"ld-seen"))
 }
 
 fn is_bad_seen(buf: &[u8], spans: &RequestSpans, lines: &[HeaderSpan]) -> bool
-    requires { length lines.now ≤ 64 }
+    requires { length lines.now ≤ most_lines }
     ensures { result ≡ (head_of (request_at buf.now spans.now lines.now)).bad_seen }
 {
     !all_decimal(buf, &values_of(buf, lines, b"ld-seen"))
 }
 
 fn is_now(buf: &[u8], spans: &RequestSpans, lines: &[HeaderSpan]) -> bool
-    requires { length lines.now ≤ 64 }
+    requires { length lines.now ≤ most_lines }
     ensures { result ≡ (head_of (request_at buf.now spans.now lines.now)).now }
 {
     one_is(buf, &values_of(buf, lines, b"ld-refresh"), b"now")
 }
 
 fn is_bad_refresh(buf: &[u8], spans: &RequestSpans, lines: &[HeaderSpan]) -> bool
-    requires { length lines.now ≤ 64 }
+    requires { length lines.now ≤ most_lines }
     ensures { result ≡ (head_of (request_at buf.now spans.now lines.now)).bad_refresh }
 {
     !all_are(buf, &values_of(buf, lines, b"ld-refresh"), b"now")
@@ -184,7 +184,7 @@ fn is_bad_refresh(buf: &[u8], spans: &RequestSpans, lines: &[HeaderSpan]) -> boo
 
 // What the head says, where it is accepted.
 fn read_parts(buf: &[u8], spans: &RequestSpans, lines: &[HeaderSpan]) -> Head
-    requires { length lines.now ≤ 64 }
+    requires { length lines.now ≤ most_lines }
     ensures { result ≡ head_of (request_at buf.now spans.now lines.now) }
 {
     Head {
@@ -202,7 +202,7 @@ fn read_parts(buf: &[u8], spans: &RequestSpans, lines: &[HeaderSpan]) -> Head
 }
 
 fn judge_lines(buf: &[u8], spans: &RequestSpans, lines: &[HeaderSpan]) -> Result<Head, HeadErr>
-    requires { length lines.now ≤ 64 }
+    requires { length lines.now ≤ most_lines }
     ensures value { result ≡ judged (request_at buf.now spans.now lines.now) }
     ensures unfailed { (faults : ℕ) → count_after_head faults result ≡ faults }
 {
@@ -222,7 +222,7 @@ fn judge_lines(buf: &[u8], spans: &RequestSpans, lines: &[HeaderSpan]) -> Result
 
 /// What the head says that the spans cover, or the first refusal that applies (RFC 9110, RFC 9112).
 pub(crate) fn judge(buf: &[u8], spans: &RequestSpans, lines: &[HeaderSpan]) -> Result<Head, HeadErr>
-    requires few { length lines.now ≤ 64 }
+    requires few { length lines.now ≤ most_lines }
     requires within { spans.now.headers ≤ length lines.now }
     ensures value { (h : RequestHead) → IsRequestAt buf.now lines.now spans.now h → result ≡ judged (request_of h) }
     ensures unfailed { (faults : ℕ) → count_after_head faults result ≡ faults }

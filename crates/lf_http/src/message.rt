@@ -4,7 +4,7 @@ ghost use Rattle.std.specs.String.{string_capacity};
 ghost use Rattle.httparse.specs.Grammar.{RequestHead, IsRequestHead, ReadsRequest, print_request};
 ghost use Rattle.lf_io.specs.Bytes.{prepended, HasEnded};
 ghost use Rattle.lf_http.specs.Judge.{judged, request_of};
-ghost use Rattle.lf_http.specs.Reading.{IsRefused, IsBeyond, ReadsOn, as_read, count_after_head, name_of, to_come};
+ghost use Rattle.lf_http.specs.Reading.{IsRefused, IsBeyond, ReadsOn, as_read, count_after_head, name_of, to_come, longest_head, most_lines};
 
 use crate::buffers::{Buffers, drop_front};
 use crate::field::bytes_of;
@@ -15,11 +15,11 @@ use lf_io::Source;
 
 // Keeps what the target names.
 fn keep_name(name: &mut String, target: &[u8])
-    requires capacity { 16384 ≤ string_capacity name.old }
-    requires short { length target.now ≤ 16384 }
+    requires capacity { longest_head ≤ string_capacity name.old }
+    requires short { length target.now ≤ longest_head }
     requires text { IsUtf8 target.now }
     ensures name { string_bytes name.new ≡ name_of target.now }
-    ensures capacity { 16384 ≤ string_capacity name.new }
+    ensures capacity { longest_head ≤ string_capacity name.new }
 {
     name.clear();
     if target.starts_with(b"/frames/") {
@@ -45,7 +45,7 @@ pub fn read_head<S: Source>(source: &mut S, buffers: &mut Buffers) -> Result<Opt
     ensures head { IfOk result (λ o. IfSome o (λ head. (h : RequestHead) × IsRequestHead h
         × (prepended buffers.old.pending (S.left source.old) ≡ prepended (print_request h ++ buffers.new.pending) (S.left source.new))
         × (judged (request_of h) ≡ Ok head) × (buffers.new.name ≡ name_of h.target)
-        × (length (print_request h) ≤ 16384) × (length h.fields ≤ 64))) }
+        × (length (print_request h) ≤ longest_head) × (length h.fields ≤ most_lines))) }
 
     // `None` comes where the input ended before the first byte of a message.
     ensures none { result ≡ Ok None → buffers.new.pending ≡ [] }
@@ -64,15 +64,15 @@ pub fn read_head<S: Source>(source: &mut S, buffers: &mut Buffers) -> Result<Opt
     ensures onward { OnErr result (ReadsOn buffers.old.pending buffers.new.pending) }
 
     // Where they hold a whole head, its refusal is its own.
-    ensures exact { (h : RequestHead) (rest : List ℕ) → ReadsRequest buffers.new.pending h rest → length h.fields ≤ 64
+    ensures exact { (h : RequestHead) (rest : List ℕ) → ReadsRequest buffers.new.pending h rest → length h.fields ≤ most_lines
         → IfErr result (λ e. judged (request_of h) ≡ Err e) }
-    ensures many { (h : RequestHead) (rest : List ℕ) → ReadsRequest buffers.new.pending h rest → 64 < length h.fields
+    ensures many { (h : RequestHead) (rest : List ℕ) → ReadsRequest buffers.new.pending h rest → most_lines < length h.fields
         → IfErr result (λ e. e ≡ HeadErr.TooLarge) }
 
     // A head within the limits that the stream begins with is found, however the source cuts its pieces, and one beyond them
     // is too large.
     ensures found { (h : RequestHead) (told rest : List ℕ) → S.left source.old ≡ Some told
-        → ReadsRequest (buffers.old.pending ++ told) h rest → length (print_request h) ≤ 16384 → length h.fields ≤ 64
+        → ReadsRequest (buffers.old.pending ++ told) h rest → length (print_request h) ≤ longest_head → length h.fields ≤ most_lines
         → (result ≡ Err HeadErr.ReadFault → ⊥) → result ≡ as_read (judged (request_of h)) }
     ensures large { (h : RequestHead) (told rest : List ℕ) → S.left source.old ≡ Some told
         → ReadsRequest (buffers.old.pending ++ told) h rest → IsBeyond h
@@ -80,7 +80,7 @@ pub fn read_head<S: Source>(source: &mut S, buffers: &mut Buffers) -> Result<Opt
     // One that is cut is cut short: it lacks some bytes, and nothing is left behind the part that came.
     ensures cut { (h : RequestHead) (told lacking : List ℕ) → S.left source.old ≡ Some told
         → (buffers.old.pending ++ told ≡ [] → ⊥) → (lacking ≡ [] → ⊥) → ReadsRequest ((buffers.old.pending ++ told) ++ lacking) h []
-        → length (print_request h) ≤ 16384 → length h.fields ≤ 64
+        → length (print_request h) ≤ longest_head → length h.fields ≤ most_lines
         → (result ≡ Err HeadErr.ReadFault → ⊥) → result ≡ Err HeadErr.CutShort }
     ensures rest { (h : RequestHead) (told rest : List ℕ) → S.left source.old ≡ Some told
         → ReadsRequest (buffers.old.pending ++ told) h rest → OnOk result (prepended buffers.new.pending (S.left source.new) ≡ Some rest) }

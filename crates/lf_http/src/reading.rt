@@ -4,7 +4,7 @@ ghost use Rattle.httparse.specs.Grammar.{RequestHead, ReadsRequest};
 ghost use Rattle.httparse.specs.Spans.{IsRequestOf, IsRequestWithin};
 ghost use Rattle.lf_io.specs.Bytes.{prepended, HasEnded};
 ghost use Rattle.lf_io.specs.Faults.{count_after};
-ghost use Rattle.lf_http.specs.Reading.{IsOpen, LacksHead, ReadsOn, count_after_head, to_come};
+ghost use Rattle.lf_http.specs.Reading.{IsOpen, LacksHead, ReadsOn, count_after_head, to_come, longest_head, longest_piece, most_lines};
 
 use crate::buffers::LONGEST_HEAD;
 use crate::head::HeadErr;
@@ -22,16 +22,16 @@ pub(crate) fn read_more<S: Source>(
     pending: &mut Vec<u8>,
     piece: &mut [u8],
 ) -> Result<usize, Failed>
-    requires piece { length piece.old ≡ 4096 }
-    requires room { length pending.old.items < 16384 }
-    requires capacity { 16384 ≤ vec_capacity pending.old }
+    requires piece { length piece.old ≡ longest_piece }
+    requires room { length pending.old.items < longest_head }
+    requires capacity { longest_head ≤ vec_capacity pending.old }
     ensures bytes { prepended pending.old.items (S.left source.old) ≡ prepended pending.new.items (S.left source.new) }
-    ensures piece { length piece.new ≡ 4096 }
-    ensures within { length pending.new.items ≤ 16384 }
-    ensures capacity { 16384 ≤ vec_capacity pending.new }
+    ensures piece { length piece.new ≡ longest_piece }
+    ensures within { length pending.new.items ≤ longest_head }
+    ensures capacity { longest_head ≤ vec_capacity pending.new }
     ensures kept { OnOk result (take (length pending.old.items) pending.new.items ≡ pending.old.items) }
     ensures longer { IfOk result (λ n. length pending.new.items ≡ length pending.old.items + n) }
-    ensures piecewise { IfOk result (λ n. n ≤ 4096) }
+    ensures piecewise { IfOk result (λ n. n ≤ longest_piece) }
     ensures end { IfOk result (λ n. n ≡ 0 → HasEnded (S.left source.new)) }
     ensures nothing { IfOk result (λ n. n ≡ 0 → pending.new.items ≡ pending.old.items) }
     ensures same { OnErr result (pending.new.items ≡ pending.old.items) }
@@ -50,13 +50,13 @@ pub(crate) fn read_more<S: Source>(
 
 // The head that the bytes begin with, if it is whole. None where they may still become one.
 fn parse(bytes: &[u8], lines: &mut [HeaderSpan]) -> Result<Option<RequestSpans>, HeadErr>
-    requires lines { length lines.old ≡ 64 }
-    requires within { length bytes.now ≤ 16384 }
-    ensures room { length lines.new ≡ 64 }
+    requires lines { length lines.old ≡ most_lines }
+    requires within { length bytes.now ≤ longest_head }
+    ensures room { length lines.new ≡ most_lines }
     ensures whole { IfOk result (λ o. IfSome o (λ spans. IsRequestOf bytes.now lines.new spans)) }
     ensures within { IfOk result (λ o. IfSome o (λ spans. IsRequestWithin bytes.now lines.new spans)) }
     ensures open { result ≡ Ok None → IsOpen bytes.now }
-    ensures more { result ≡ Ok None → length bytes.now < 16384 }
+    ensures more { result ≡ Ok None → length bytes.now < longest_head }
     ensures refused { (left : Option (List ℕ)) → IfErr result (λ e. LacksHead bytes.now left e) }
     ensures some { OnErr result (0 < length bytes.now) }
     ensures unfailed { (count : ℕ) → count_after_head count result ≡ count }
@@ -81,7 +81,7 @@ fn parse(bytes: &[u8], lines: &mut [HeaderSpan]) -> Result<Option<RequestSpans>,
 // What is answered where the input has ended.
 fn end_of_input(pending: &[u8]) -> Result<Option<RequestSpans>, HeadErr>
     requires open { IsOpen pending.now }
-    requires short { length pending.now < 16384 }
+    requires short { length pending.now < longest_head }
     ensures none { IfOk result (λ o. (o ≡ None) × (pending.now ≡ [])) }
     ensures refused { (left : Option (List ℕ)) → HasEnded left → IfErr result (λ e. LacksHead pending.now left e) }
     ensures some { OnErr result (pending.now ≡ [] → ⊥) }
@@ -100,13 +100,13 @@ pub(crate) fn next_head<S: Source>(
     pending: &mut Vec<u8>,
     lines: &mut [HeaderSpan],
 ) -> Result<Option<RequestSpans>, HeadErr>
-    requires lines { length lines.old ≡ 64 }
-    requires within { length pending.old.items ≤ 16384 }
-    requires capacity { 16384 ≤ vec_capacity pending.old }
-    ensures room { length lines.new ≡ 64 }
+    requires lines { length lines.old ≡ most_lines }
+    requires within { length pending.old.items ≤ longest_head }
+    requires capacity { longest_head ≤ vec_capacity pending.old }
+    ensures room { length lines.new ≡ most_lines }
     ensures bytes { prepended pending.old.items (S.left source.old) ≡ prepended pending.new.items (S.left source.new) }
-    ensures within { length pending.new.items ≤ 16384 }
-    ensures capacity { 16384 ≤ vec_capacity pending.new }
+    ensures within { length pending.new.items ≤ longest_head }
+    ensures capacity { longest_head ≤ vec_capacity pending.new }
     ensures whole { IfOk result (λ o. IfSome o (λ spans. IsRequestOf pending.new.items lines.new spans)) }
     ensures spans { IfOk result (λ o. IfSome o (λ spans. IsRequestWithin pending.new.items lines.new spans)) }
     ensures none { result ≡ Ok None → pending.new.items ≡ [] }

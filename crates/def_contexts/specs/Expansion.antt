@@ -1,6 +1,7 @@
 -- IRI expansion (JSON-LD 1.1 Processing Algorithms and API, section 5.2).
 use Rattle.std.specs.Prelude.{List, [], ◌∷◌, ◌++◌, ℕ, Bool, true, false, ◌||◌, if◌then◌else◌, Option, Some, None, unwrap_or, find}
 use Rattle.std.specs.Option.{option_or}
+use Rattle.lf_base.specs.Ascii as ch
 use Rattle.lf_model.specs.declared.table.TermTable.{TermTable}
 use Rattle.lf_model.specs.declared.table.TermDef.{TermDef}
 use Rattle.lf_rdf.specs.Equality.{text_eq}
@@ -18,7 +19,7 @@ pub data Split : Type 0 where
   split : List ℕ → List ℕ → Split
 
 abbrev pub split_at : List ℕ → List ℕ → Split
-split_at before after = if text_eq before (95 ∷ []) || begins_authority after then as_is else split before after
+split_at before after = if text_eq before (ch.underscore ∷ []) || begins_authority after then as_is else split before after
 
 -- a text with `:` after its first character is cut at its first `:`
 abbrev pub split_of : List ℕ → Split

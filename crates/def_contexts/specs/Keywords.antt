@@ -1,6 +1,7 @@
 -- Keywords (JSON-LD 1.1, section 1.7; JSON-LD 1.1 Framing, section 4.1).
 use Rattle.std.specs.Prelude.{List, [], ◌∷◌, ℕ, nat_eq, Bool, false, ◌&&◌, codes}
 use Rattle.std.specs.List.{list_any, list_all}
+use Rattle.lf_base.specs.Ascii as ch
 use Rattle.lf_rdf.specs.Equality.{text_eq}
 use Rattle.def_contexts.specs.Texts.{is_letter}
 
@@ -25,4 +26,4 @@ is_keyword text = one_of keywords text
 unfoldable pub has_keyword_form : List ℕ → Bool
 has_keyword_form [] = false
 has_keyword_form (b ∷ []) = false
-has_keyword_form (b ∷ c ∷ rest) = nat_eq b 64 && list_all is_letter (c ∷ rest)
+has_keyword_form (b ∷ c ∷ rest) = nat_eq b ch.at_sign && list_all is_letter (c ∷ rest)

@@ -1,6 +1,7 @@
 -- What definitions ask of texts, which are their UTF-8 bytes (RFC 3986, sections 2.2 and 3.1).
 use Rattle.std.specs.Prelude.{List, [], ◌∷◌, ℕ, ◌+◌, nat_eq, nat_le, Bool, true, false, ◌&&◌, ◌||◌, if◌then◌else◌, drop, map}
 use Rattle.std.specs.List.{list_any, starts_with}
+use Rattle.lf_base.specs.Ascii as ch
 
 abbrev pub is_empty : List ℕ → Bool
 is_empty [] = true
@@ -20,12 +21,12 @@ is_digit b = nat_le 48 b && nat_le b 57
 
 -- what may follow the first letter of a scheme: a letter, a digit, `+`, `.` or `-`
 abbrev pub is_scheme_byte : ℕ → Bool
-is_scheme_byte b = is_letter b || is_digit b || nat_eq b 43 || nat_eq b 46 || nat_eq b 45
+is_scheme_byte b = is_letter b || is_digit b || nat_eq b ch.plus || nat_eq b ch.dot || nat_eq b ch.hyphen
 
 -- the rest of a scheme and its `:`
 abbrev pub ends_scheme : List ℕ → Bool
 ends_scheme [] = false
-ends_scheme (b ∷ rest) = nat_eq b 58 || (is_scheme_byte b && ends_scheme rest)
+ends_scheme (b ∷ rest) = nat_eq b ch.colon || (is_scheme_byte b && ends_scheme rest)
 
 -- a text is absolute where it begins with a scheme and `:`
 unfoldable pub is_absolute : List ℕ → Bool
@@ -38,7 +39,7 @@ has_byte b text = list_any (nat_eq b) text
 
 -- a `:` after the first character
 abbrev pub has_later_colon : List ℕ → Bool
-has_later_colon text = has_byte 58 (drop 1 text)
+has_later_colon text = has_byte ch.colon (drop 1 text)
 
 -- the text without its last byte
 abbrev pub without_last : List ℕ → List ℕ
@@ -53,16 +54,17 @@ has_inner_colon text = has_later_colon (without_last text)
 -- what stands before the first `:`, and after it
 abbrev pub before_colon : List ℕ → List ℕ
 before_colon [] = []
-before_colon (b ∷ rest) = if nat_eq b 58 then [] else b ∷ before_colon rest
+before_colon (b ∷ rest) = if nat_eq b ch.colon then [] else b ∷ before_colon rest
 
 abbrev pub after_colon : List ℕ → List ℕ
 after_colon [] = []
-after_colon (b ∷ rest) = if nat_eq b 58 then rest else after_colon rest
+after_colon (b ∷ rest) = if nat_eq b ch.colon then rest else after_colon rest
 
 -- the delimiters of the generic syntax: `: / ? # [ ] @`
 abbrev pub is_gen_delim : ℕ → Bool
 is_gen_delim b =
-    nat_eq b 58 || nat_eq b 47 || nat_eq b 63 || nat_eq b 35 || nat_eq b 91 || nat_eq b 93 || nat_eq b 64
+    nat_eq b ch.colon || nat_eq b ch.slash || nat_eq b ch.question_mark || nat_eq b ch.hash
+    || nat_eq b ch.opening_bracket || nat_eq b ch.closing_bracket || nat_eq b ch.at_sign
 
 abbrev pub ends_in_gen_delim : List ℕ → Bool
 ends_in_gen_delim [] = false
@@ -71,7 +73,7 @@ ends_in_gen_delim (b ∷ c ∷ rest) = ends_in_gen_delim (c ∷ rest)
 
 -- `//` at the front
 abbrev pub begins_authority : List ℕ → Bool
-begins_authority text = starts_with nat_eq text (47 ∷ 47 ∷ [])
+begins_authority text = starts_with nat_eq text (ch.slash ∷ ch.slash ∷ [])
 
 -- ASCII capitals made small
 abbrev pub lower_byte : ℕ → ℕ

@@ -2,6 +2,7 @@
 -- such: an IRI has no `>`, labels and language tags have no space, and a literal with a language tag has the datatype `rdf:langString`.
 use Rattle.std.specs.Prelude.{◌≡◌, List, [], ◌∷◌, ℕ, nat_eq, Bool, true, false, ◌&&◌, not, Option, Some, None, IsTrue}
 use Rattle.std.specs.List.{list_all}
+use Rattle.lf_base.specs.Ascii as ch
 use Rattle.lf_rdf.specs.declared.term.Term.{Term}
 use Rattle.lf_rdf.specs.declared.term.Term.TheVariants.{Iri, Blank, Literal}
 use Rattle.lf_rdf.specs.declared.quad.Quad.{Quad}
@@ -15,10 +16,10 @@ abbrev pub lacks : ℕ → List ℕ → Bool
 lacks byte = list_all (λ b. not (nat_eq b byte))
 
 abbrev pub legible_term : Term → Bool
-legible_term (Iri iri) = lacks 62 iri
-legible_term (Blank label) = lacks 32 label
-legible_term (Literal lexical datatype None) = lacks 62 datatype
-legible_term (Literal lexical datatype (Some language)) = text_eq datatype rdf_lang_string && lacks 32 language
+legible_term (Iri iri) = lacks ch.greater iri
+legible_term (Blank label) = lacks ch.space label
+legible_term (Literal lexical datatype None) = lacks ch.greater datatype
+legible_term (Literal lexical datatype (Some language)) = text_eq datatype rdf_lang_string && lacks ch.space language
 
 abbrev pub legible_label : Option Term → Bool
 legible_label None = true
@@ -49,7 +50,7 @@ LinesOrderQuads =
 -- an IRI that doesn't begin with `_`, as no IRI with a scheme does, or a blank node
 abbrev pub begins_otherwise : List ℕ → Bool
 begins_otherwise [] = true
-begins_otherwise (b ∷ rest) = not (nat_eq b 95)
+begins_otherwise (b ∷ rest) = not (nat_eq b ch.underscore)
 
 abbrev pub has_own_id : Term → Bool
 has_own_id (Iri iri) = begins_otherwise iri

@@ -1,6 +1,7 @@
 -- Patch texts: lines of the grammar, each stating a signed quad or skipped.
 use Rattle.std.specs.Prelude.{◌≡◌, ◌≤◌, ℕ, nat_eq, Bool, true, false, ◌&&◌, ◌||◌, if◌then◌else◌, List, [], ◌∷◌, length, Option, Some, None, encode_utf8_all}
 use Rattle.std.specs.Str.{all_scalars}
+use Rattle.lf_base.specs.Ascii as ch
 use Rattle.lf_rdf.specs.declared.quad.Signed.{Signed}
 use Rattle.def_patch_texts.specs.Characters.{is_absolute}
 use Rattle.def_patch_texts.specs.Terminals.{Allowed}
@@ -13,17 +14,17 @@ with_first byte (line ∷ lines) = (byte ∷ line) ∷ lines
 
 -- CR or LF
 abbrev pub is_line_end : ℕ → Bool
-is_line_end byte = nat_eq byte 13 || nat_eq byte 10
+is_line_end byte = nat_eq byte ch.carriage_return || nat_eq byte ch.line_feed
 
 -- A byte before these lines: LF behind CR ends no further line, CR or LF ends a line, and any other byte belongs to the first.
 abbrev pub cut_at : Bool → ℕ → List (List ℕ) → List (List ℕ)
 cut_at after_cr byte lines =
-    if after_cr && nat_eq byte 10 then lines else if is_line_end byte then ([] ∷ lines) else with_first byte lines
+    if after_cr && nat_eq byte ch.line_feed then lines else if is_line_end byte then ([] ∷ lines) else with_first byte lines
 
 -- the lines of what stands behind CR or not
 abbrev pub lines_from : Bool → List ℕ → List (List ℕ)
 lines_from after_cr [] = [] ∷ []
-lines_from after_cr (byte ∷ rest) = cut_at after_cr byte (lines_from (nat_eq byte 13) rest)
+lines_from after_cr (byte ∷ rest) = cut_at after_cr byte (lines_from (nat_eq byte ch.carriage_return) rest)
 
 -- The lines of a text without their ends, which are CR LF, a lone LF or a lone CR.
 abbrev pub lines_of : List ℕ → List (List ℕ)

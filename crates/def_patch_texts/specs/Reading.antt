@@ -2,6 +2,7 @@
 use Rattle.std.specs.Prelude.{ℕ, zero, suc, nat_eq, Bool, true, false, ◌&&◌, if◌then◌else◌, List, [], ◌∷◌, length, take, drop, Option, Some, None, encode_utf8_all}
 use Rattle.std.specs.Str.{all_scalars}
 use Rattle.std.specs.List.{prefix_len, list_all}
+use Rattle.lf_base.specs.Ascii as ch
 use Rattle.lf_rdf.specs.declared.term.Term.{Term}
 use Rattle.lf_rdf.specs.declared.term.Term.TheVariants.{Iri, Blank, Literal}
 use Rattle.lf_rdf.specs.declared.quad.Quad.{Quad}
@@ -43,14 +44,14 @@ numbered_at count text =
 unfoldable pub unicode_at : List ℕ → Option (ℕ × List ℕ)
 unicode_at [] = None
 unicode_at (letter ∷ rest) =
-    if nat_eq letter 117 then numbered_at 4 rest else if nat_eq letter 85 then numbered_at 8 rest else None
+    if nat_eq letter ch.letter_u then numbered_at 4 rest else if nat_eq letter ch.capital_u then numbered_at 8 rest else None
 
 -- ---- IRIs
 
 unfoldable pub iri_part_at : Allowed → List ℕ → Option (ℕ × List ℕ)
 iri_part_at allowed [] = None
 iri_part_at allowed (c ∷ rest) =
-    if nat_eq c 92 then (unicode_at rest >>= λ named. if is_iri_char named.0 && allowed.escape (c ∷ rest) named.1 then Some named else None)
+    if nat_eq c ch.backslash then (unicode_at rest >>= λ named. if is_iri_char named.0 && allowed.escape (c ∷ rest) named.1 then Some named else None)
     else if is_iri_char c then Some (c, rest)
     else None
 
@@ -58,14 +59,14 @@ iri_part_at allowed (c ∷ rest) =
 unfoldable pub iri_parts_at : ℕ → Allowed → List ℕ → Option (List ℕ × List ℕ)
 iri_parts_at zero allowed text = None
 iri_parts_at (suc room) allowed text =
-    if starts 62 text then Some ([], text)
+    if starts ch.greater text then Some ([], text)
     else (iri_part_at allowed text >>= λ part. iri_parts_at room allowed part.1 >>= λ others. Some (part.0 ∷ others.0, others.1))
 
 unfoldable pub iri_at : Allowed → List ℕ → Option (List ℕ × List ℕ)
 iri_at allowed text = do
-  inside ← after_char 60 text
+  inside ← after_char ch.less text
   parts ← iri_parts_at (suc (length inside)) allowed inside
-  rest ← after_char 62 parts.1
+  rest ← after_char ch.greater parts.1
   if allowed.iri parts.0 rest then Some (encode_utf8_all parts.0, rest) else None
 
 -- ---- labels and tags
@@ -83,14 +84,14 @@ front_at test text =
 
 unfoldable pub blank_at : List ℕ → Option (List ℕ × List ℕ)
 blank_at text = do
-  colon ← after_char 95 text
-  label ← after_char 58 colon
+  colon ← after_char ch.underscore text
+  label ← after_char ch.colon colon
   front ← front_at is_label label
   Some (encode_utf8_all front.0, front.1)
 
 unfoldable pub tag_at : List ℕ → Option (List ℕ × List ℕ)
 tag_at text = do
-  tag ← after_char 64 text
+  tag ← after_char ch.at_sign text
   front ← front_at is_tag tag
   Some (lower front.0, front.1)
 
@@ -110,20 +111,20 @@ string_escape_at allowed text (letter ∷ rest) = escape_at allowed text (letter
 unfoldable pub string_part_at : Allowed → List ℕ → Option (ℕ × List ℕ)
 string_part_at allowed [] = None
 string_part_at allowed (c ∷ rest) =
-    if nat_eq c 92 then string_escape_at allowed (c ∷ rest) rest else if is_string_char c then Some (c, rest) else None
+    if nat_eq c ch.backslash then string_escape_at allowed (c ∷ rest) rest else if is_string_char c then Some (c, rest) else None
 
 -- the characters before `"`, which are at most so many
 unfoldable pub string_parts_at : ℕ → Allowed → List ℕ → Option (List ℕ × List ℕ)
 string_parts_at zero allowed text = None
 string_parts_at (suc room) allowed text =
-    if starts 34 text then Some ([], text)
+    if starts ch.quote text then Some ([], text)
     else (string_part_at allowed text >>= λ part. string_parts_at room allowed part.1 >>= λ others. Some (part.0 ∷ others.0, others.1))
 
 unfoldable pub string_at : Allowed → List ℕ → Option (List ℕ × List ℕ)
 string_at allowed text = do
-  inside ← after_char 34 text
+  inside ← after_char ch.quote text
   parts ← string_parts_at (suc (length inside)) allowed inside
-  rest ← after_char 34 parts.1
+  rest ← after_char ch.quote parts.1
   Some (encode_utf8_all parts.0, rest)
 
 -- ---- terms
@@ -131,26 +132,26 @@ string_at allowed text = do
 -- an IRI or a blank node
 unfoldable pub node_at : Allowed → List ℕ → Option (Term × List ℕ)
 node_at allowed text =
-    if starts 60 text then (iri_at allowed text >>= λ iri. Some (Iri iri.0, iri.1))
+    if starts ch.less text then (iri_at allowed text >>= λ iri. Some (Iri iri.0, iri.1))
     else (blank_at text >>= λ label. Some (Blank label.0, label.1))
 
 -- the datatype behind `^^`
 unfoldable pub typed_at : Allowed → List ℕ → Option (List ℕ × List ℕ)
 typed_at allowed text = do
-  caret ← after_char 94 text
-  iri ← after_char 94 caret
+  caret ← after_char ch.caret text
+  iri ← after_char ch.caret caret
   iri_at allowed (skip iri)
 
 -- a literal with this string, behind which this text stands
 unfoldable pub suffix_at : Allowed → List ℕ → List ℕ → Option (Term × List ℕ)
 suffix_at allowed value text =
-    if starts 94 (skip text) then (typed_at allowed (skip text) >>= λ datatype. Some (Literal value datatype.0 None, datatype.1))
-    else if starts 64 (skip text) then (tag_at (skip text) >>= λ tag. Some (Literal value rdf_lang_string (Some tag.0), tag.1))
+    if starts ch.caret (skip text) then (typed_at allowed (skip text) >>= λ datatype. Some (Literal value datatype.0 None, datatype.1))
+    else if starts ch.at_sign (skip text) then (tag_at (skip text) >>= λ tag. Some (Literal value rdf_lang_string (Some tag.0), tag.1))
     else Some (Literal value xsd_string None, text)
 
 unfoldable pub object_at : Allowed → List ℕ → Option (Term × List ℕ)
 object_at allowed text =
-    if starts 34 text then (string_at allowed text >>= λ value. suffix_at allowed value.0 value.1) else node_at allowed text
+    if starts ch.quote text then (string_at allowed text >>= λ value. suffix_at allowed value.0 value.1) else node_at allowed text
 
 -- ---- lines
 
@@ -158,18 +159,18 @@ object_at allowed text =
 unfoldable pub named_at : Allowed → List ℕ → Option (Option Term × List ℕ)
 named_at allowed text = do
   name ← node_at allowed text
-  rest ← after_char 46 (skip name.1)
+  rest ← after_char ch.dot (skip name.1)
   Some (Some name.0, rest)
 
 -- the graph label, where there is one, and the dot
 unfoldable pub graph_at : Allowed → List ℕ → Option (Option Term × List ℕ)
 graph_at allowed text =
-    if starts 46 (skip text) then (after_char 46 (skip text) >>= λ rest. Some (None, rest)) else named_at allowed (skip text)
+    if starts ch.dot (skip text) then (after_char ch.dot (skip text) >>= λ rest. Some (None, rest)) else named_at allowed (skip text)
 
 -- nothing, or a comment
 abbrev pub is_comment : List ℕ → Bool
 is_comment [] = true
-is_comment (c ∷ rest) = nat_eq c 35
+is_comment (c ∷ rest) = nat_eq c ch.hash
 
 abbrev pub quad_of : Term → List ℕ → Term → Option Term → Quad
 quad_of subject predicate object graph =
@@ -186,8 +187,8 @@ statement_at allowed text = do
 -- the sign of a line and the statement behind it
 unfoldable pub sign_at : List ℕ → Option (Bool × List ℕ)
 sign_at text =
-    if starts 43 text then (after_char 43 text >>= λ space. after_char 32 space >>= λ rest. Some (true, rest))
-    else if starts 45 text then (after_char 45 text >>= λ space. after_char 32 space >>= λ rest. Some (false, rest))
+    if starts ch.plus text then (after_char ch.plus text >>= λ space. after_char ch.space space >>= λ rest. Some (true, rest))
+    else if starts ch.hyphen text then (after_char ch.hyphen text >>= λ space. after_char ch.space space >>= λ rest. Some (false, rest))
     else Some (true, text)
 
 unfoldable pub signed_at : Allowed → List ℕ → Option (Option Signed)

@@ -1,5 +1,6 @@
 -- Statements and lines (RDF 1.1 N-Quads, section 2 and appendix A), with the sign of a patch.
 use Rattle.std.specs.Prelude.{◌≡◌, ◌⊎◌, ℕ, Bool, true, false, List, [], ◌∷◌, Option, Some, None}
+use Rattle.lf_base.specs.Ascii as ch
 use Rattle.lf_rdf.specs.declared.term.Term.{Term}
 use Rattle.lf_rdf.specs.declared.term.Term.TheVariants.{Iri, Blank, Literal}
 use Rattle.lf_rdf.specs.declared.quad.Quad.{Quad}
@@ -7,7 +8,7 @@ use Rattle.lf_rdf.specs.declared.quad.Signed.{Signed}
 use Rattle.lf_rdf.specs.Vocabulary.{xsd_string, rdf_lang_string}
 use Rattle.def_patch_texts.specs.Terminals.{Allowed, IsSpace, IsIri, IsBlank, IsString, IsTag}
 
--- a subject or a graph label: an IRI or a blank node
+-- subject ::= IRIREF | BLANK_NODE_LABEL, and so is a graph label
 abbrev pub IsNode : Allowed → List ℕ → Term → List ℕ → Type 0
 IsNode allowed text (Iri iri) rest = IsIri allowed text iri rest
 IsNode allowed text (Blank label) rest = IsBlank text label rest
@@ -17,7 +18,7 @@ IsNode allowed text (Literal value datatype language) rest = ⊥
 pub record IsTyped (allowed : Allowed) (text datatype rest : List ℕ) : Type 0 where
   pub carets : List ℕ
   pub iri : List ℕ
-  pub before : IsSpace text (94 ∷ 94 ∷ carets)
+  pub before : IsSpace text (ch.caret ∷ ch.caret ∷ carets)
   pub between : IsSpace carets iri
   pub names : IsIri allowed iri datatype rest
 
@@ -27,13 +28,13 @@ pub record IsTagged (text language rest : List ℕ) : Type 0 where
   pub before : IsSpace text tag
   pub names : IsTag tag language rest
 
--- what follows the string of a literal: nothing, a datatype or a tag
+-- literal ::= STRING_LITERAL_QUOTE ('^^' IRIREF | LANGTAG)?, here behind its string
 abbrev pub IsSuffix : Allowed → List ℕ → List ℕ → Option (List ℕ) → List ℕ → Type 0
 IsSuffix allowed text datatype None rest =
     ((datatype ≡ xsd_string) × (text ≡ rest)) ⊎ IsTyped allowed text datatype rest
 IsSuffix allowed text datatype (Some language) rest = (datatype ≡ rdf_lang_string) × IsTagged text language rest
 
--- an object
+-- object ::= IRIREF | BLANK_NODE_LABEL | literal
 abbrev pub IsObject : Allowed → List ℕ → Term → List ℕ → Type 0
 IsObject allowed text (Iri iri) rest = IsIri allowed text iri rest
 IsObject allowed text (Blank label) rest = IsBlank text label rest
@@ -42,15 +43,15 @@ IsObject allowed text (Literal value datatype language) rest =
 
 -- the graph label, where there is one, and the dot
 abbrev pub IsGraph : Allowed → List ℕ → Option Term → List ℕ → Type 0
-IsGraph allowed text None rest = IsSpace text (46 ∷ rest)
+IsGraph allowed text None rest = IsSpace text (ch.dot ∷ rest)
 IsGraph allowed text (Some name) rest =
-    (label : List ℕ) × (dot : List ℕ) × IsSpace text label × IsNode allowed label name dot × IsSpace dot (46 ∷ rest)
+    (label : List ℕ) × (dot : List ℕ) × IsSpace text label × IsNode allowed label name dot × IsSpace dot (ch.dot ∷ rest)
 
 -- spaces, and a comment or nothing
 abbrev pub IsRest : List ℕ → Type 0
-IsRest text = IsSpace text [] ⊎ ((comment : List ℕ) × IsSpace text (35 ∷ comment))
+IsRest text = IsSpace text [] ⊎ ((comment : List ℕ) × IsSpace text (ch.hash ∷ comment))
 
--- a statement, its dot, and an optional comment
+-- statement ::= subject predicate object graphLabel? '.', and an optional comment
 pub record IsStatement (allowed : Allowed) (text : List ℕ) (quad : Quad) : Type 0 where
   pub subject : List ℕ
   pub after_subject : List ℕ
@@ -72,8 +73,8 @@ pub record IsStatement (allowed : Allowed) (text : List ℕ) (quad : Quad) : Typ
 
 -- The sign `+` or `-` and one space, or no sign, which means `+`.
 abbrev pub IsSign : List ℕ → Bool → List ℕ → Type 0
-IsSign text true rest = (text ≡ rest) ⊎ (text ≡ 43 ∷ 32 ∷ rest)
-IsSign text false rest = text ≡ 45 ∷ 32 ∷ rest
+IsSign text true rest = (text ≡ rest) ⊎ (text ≡ ch.plus ∷ ch.space ∷ rest)
+IsSign text false rest = text ≡ ch.hyphen ∷ ch.space ∷ rest
 
 -- A line of these characters states a signed quad, or is skipped.
 abbrev pub IsLineOf : Allowed → List ℕ → Option Signed → Type 0

@@ -2,6 +2,7 @@
 use Rattle.std.specs.Prelude.{List, [], ◌∷◌, ◌++◌, ℕ, nat_eq, nat_lt, Bool, true, false, not, ◌&&◌, ◌||◌, Option, Some, None, if◌then◌else◌, length, filter, filter_map, drop, is_some, unwrap_or, option_map}
 use Rattle.std.specs.List.{list_any, starts_with}
 use Rattle.std.specs.Option.{option_or}
+use Rattle.lf_base.specs.Ascii as ch
 use Rattle.lf_rdf.specs.declared.term.Term.{Term}
 use Rattle.lf_rdf.specs.declared.term.Term.TheVariants.{Iri, Blank, Literal}
 use Rattle.lf_rdf.specs.Canonical.{id_of}
@@ -47,7 +48,7 @@ by_vocab table iri = unless_taken table (rest_after iri table.vocab)
 -- the compact IRI that this term makes: its name, a colon and the rest of the IRI
 abbrev pub compact_iri : List ℕ → TermDef → Option (List ℕ)
 compact_iri iri term =
-    if term.prefix then option_map (λ rest. term.name ++ 58 ∷ rest) (rest_after iri term.iri) else None
+    if term.prefix then option_map (λ rest. term.name ++ ch.colon ∷ rest) (rest_after iri term.iri) else None
 
 -- a compact IRI is used where it is no term, or, where there is no value, a term of this very IRI
 abbrev pub is_free : List ℕ → Bool → Option TermDef → Bool

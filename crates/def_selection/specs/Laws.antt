@@ -1,5 +1,6 @@
 -- Laws of chosen terms and compacted IRIs.
 use Rattle.std.specs.Prelude.{◌≡◌, List, ◌∷◌, ◌++◌, ℕ, Bool, true, false, ◌⊎◌, Some, None, Contains}
+use Rattle.lf_base.specs.Ascii as ch
 use Rattle.lf_model.specs.declared.table.TermTable.{TermTable}
 use Rattle.lf_model.specs.declared.table.TermDef.{TermDef}
 use Rattle.def_contexts.specs.Keywords.{is_keyword}
@@ -58,7 +59,7 @@ pub record IsCompactFor (table : TermTable) (iri text : List ℕ) : Type 0 where
   pub may_prefix : term.prefix ≡ true
   pub has_iri : term.iri ≡ Some start
   pub whole : start ++ rest ≡ iri
-  pub written : term.name ++ 58 ∷ rest ≡ text
+  pub written : term.name ++ ch.colon ∷ rest ≡ text
   pub own_term : (named : TermDef) → term_named table text ≡ Some named → named.iri ≡ Some iri
 
 -- a compacted IRI is one of these, or the IRI itself; terms and the vocabulary mapping only where the vocabulary counts
@@ -73,4 +74,4 @@ abbrev pub OnlyConfused : Type 0
 OnlyConfused =
     (table : TermTable) (iri : List ℕ) (vocab : Bool) (pick : Pick) → short table iri vocab pick ≡ None
     → (term : TermDef) × (rest : List ℕ) × Contains table.terms term × (term.prefix ≡ true)
-    × (term.name ++ 58 ∷ rest ≡ iri) × (begins_authority rest ≡ false)
+    × (term.name ++ ch.colon ∷ rest ≡ iri) × (begins_authority rest ≡ false)

@@ -1,5 +1,6 @@
 -- Expansion gives back what was compacted (JSON-LD 1.1 Processing Algorithms and API, sections 5.2 and 6.2).
 use Rattle.std.specs.Prelude.{◌≡◌, ◌≢◌, List, [], ◌∷◌, ℕ, Bool, true, false, Some, Contains}
+use Rattle.lf_base.specs.Ascii as ch
 use Rattle.lf_rdf.specs.Equality.{text_eq}
 use Rattle.lf_model.specs.declared.table.TermTable.{TermTable}
 use Rattle.lf_model.specs.declared.table.TermDef.{TermDef}
@@ -16,8 +17,8 @@ pub record IsOrdinary (table : TermTable) : Type 0 where
   pub found : (term : TermDef) → Contains table.terms term → find_term term.name table.terms ≡ Some term
   pub no_form : (term : TermDef) → Contains table.terms term → has_keyword_form term.name ≡ false
   pub prefix_name : (term : TermDef) → Contains table.terms term → term.prefix ≡ true → term.name ≢ []
-  pub no_colon : (term : TermDef) → Contains table.terms term → term.prefix ≡ true → has_byte 58 term.name ≡ false
-  pub no_blank : (term : TermDef) → Contains table.terms term → term.prefix ≡ true → text_eq term.name (95 ∷ []) ≡ false
+  pub no_colon : (term : TermDef) → Contains table.terms term → term.prefix ≡ true → has_byte ch.colon term.name ≡ false
+  pub no_blank : (term : TermDef) → Contains table.terms term → term.prefix ≡ true → text_eq term.name (ch.underscore ∷ []) ≡ false
 
 -- the three ways in which a compacted IRI can be read as something else don't hold: a rest behind the vocabulary mapping has a colon or
 -- the form of a keyword, `//` follows the colon of a compact IRI, or the IRI itself is the name of a term of another IRI

@@ -4,6 +4,7 @@ use Rattle.std.specs.List.{list_all, list_any, slice_split}
 use Rattle.std.specs.Char.{to_ascii_lowercase, is_ascii_digit}
 use Rattle.std.specs.Str.Parse.{digits_value}
 use Rattle.std.specs.Cmp.Lexicographic.{pointwise}
+use Rattle.lf_base.specs.Ascii as ch
 use Rattle.httparse.specs.Grammar.{trim_ows}
 
 -- a text in ASCII lower case
@@ -40,4 +41,4 @@ greatest (value ∷ more) = greater (number value) (greatest more)
 
 -- a comma-separated list has the word, compared without case and without the blanks around it (RFC 9110, section 5.6.1)
 abbrev pub has_word : List ℕ → List ℕ → Bool
-has_word word value = list_any (λ part. same_name (trim_ows part) word) (slice_split (λ b. nat_eq b 44) value)
+has_word word value = list_any (λ part. same_name (trim_ows part) word) (slice_split (λ b. nat_eq b ch.comma) value)

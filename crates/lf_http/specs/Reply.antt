@@ -1,5 +1,6 @@
 -- The head of a reply, byte for byte (RFC 9112, sections 4 and 5).
 use Rattle.std.specs.Prelude.{List, [], ◌∷◌, ◌++◌, ℕ, Bool, true, false, nat_eq, Option, Some, None, is_some, unwrap_or, codes, decimal, if◌then◌else◌}
+use Rattle.lf_base.specs.Ascii as ch
 use Rattle.lf_http.specs.declared.reply.Allow.{Allow}
 use Rattle.lf_http.specs.declared.reply.Allow.TheVariants.{NoAllow, Get, Post, GetPutDelete}
 use Rattle.lf_http.specs.declared.reply.ReplyHead.{ReplyHead}
@@ -30,11 +31,11 @@ is_named status = is_some (reason status)
 
 -- the line end
 unfoldable pub crlf : List ℕ
-crlf = 13 ∷ 10 ∷ []
+crlf = ch.carriage_return ∷ ch.line_feed ∷ []
 
 -- the status line (RFC 9112, section 4)
 unfoldable pub status_text : ℕ → List ℕ
-status_text status = codes "HTTP/1.1 " ++ decimal status ++ 32 ∷ unwrap_or (reason status) [] ++ crlf
+status_text status = codes "HTTP/1.1 " ++ decimal status ++ ch.space ∷ unwrap_or (reason status) [] ++ crlf
 
 -- `Content-Type` (RFC 9110, section 8.3): a document is JSON-LD, all else is JSON
 unfoldable pub media_text : Bool → List ℕ

@@ -19,7 +19,7 @@ use Rattle.lf_lists.proofs.Hearings.{unheard, heard_as, learnt, moved, followed,
 use Rattle.lf_lists.proofs.Walks.{proper_shaped, shaped_blank, ends_blank}
 use Rattle.lf_lists.proofs.Climbs.{few_shaped}
 
-nothing_marked : (labels : List (List ℕ)) → labels ≡ [] → (set : Term → Bool) → AllMarked set labels
+pub nothing_marked : (labels : List (List ℕ)) → labels ≡ [] → (set : Term → Bool) → AllMarked set labels
 nothing_marked labels none set x m = absurd (lacks x (subst (λ (w : List (List ℕ)). marked w x ≡ true) none m))
   where
     lacks : (x : Term) → marked [] x ≡ true → ⊥

@@ -7,3 +7,6 @@ pub mod Questions
 mod Shapes
 pub mod Walks
 mod WalkStates
+mod ItemByItem
+mod Items
+mod ReadStates

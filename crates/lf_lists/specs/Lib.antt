@@ -4,3 +4,4 @@ pub mod Marks
 pub mod Walking
 pub mod Climbing
 pub mod Known
+pub mod Reading

@@ -6,9 +6,12 @@ mod cell;
 mod known;
 mod marks;
 mod proper;
+mod reader;
 mod shape;
+mod value;
 
 pub use asking::{is_named, quads_out, quads_using};
 pub use cell::is_cell;
 pub use known::KnownCells;
 pub use shape::is_nil;
+pub use value::{list_at, value_at};

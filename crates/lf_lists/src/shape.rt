@@ -175,9 +175,17 @@ fn object_under(alloc: Global, iri: &str, quads: &[Quad]) -> Result<Option<Term>
     }
 }
 
-// The object of the first `rdf:rest`.
+/// The object of the first `rdf:first`.
+#[tactic(auto, unfolding(lf_rdf::specs::Vocabulary::rdf_first))]
+pub(crate) fn first_among(alloc: Global, quads: &[Quad]) -> Result<Option<Term>, Memory>
+    ensures { IfOk result (λ object. object ≡ object_of (with_predicate rdf_first quads.now)) }
+{
+    object_under(alloc, RDF_FIRST, quads)
+}
+
+/// The object of the first `rdf:rest`.
 #[tactic(auto, unfolding(lf_rdf::specs::Vocabulary::rdf_rest))]
-fn rest_among(alloc: Global, quads: &[Quad]) -> Result<Option<Term>, Memory>
+pub(crate) fn rest_among(alloc: Global, quads: &[Quad]) -> Result<Option<Term>, Memory>
     ensures { IfOk result (λ object. object ≡ object_of (with_predicate rdf_rest quads.now)) }
 {
     object_under(alloc, RDF_REST, quads)

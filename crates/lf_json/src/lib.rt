@@ -7,6 +7,6 @@ mod read;
 mod tests;
 mod write;
 
-pub use laws::text_is_compact;
+pub use laws::{each_reading_gives_back, text_is_compact};
 pub use read::{JsonErr, read_json};
 pub use write::{has_fraction, text};

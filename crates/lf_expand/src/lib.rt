@@ -28,4 +28,6 @@ pub use expand::expand_frame;
 pub use first_frame::read_first_frame;
 
 #[cfg(test)]
+mod frame_tests;
+#[cfg(test)]
 mod tests;

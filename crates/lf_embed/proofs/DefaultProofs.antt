@@ -1,5 +1,5 @@
 -- The defaults of a node, property by property.
-use Rattle.std.proofs.Common.{◌≡◌, ℕ, ◌+◌, ◌<◌, Bool, true, false, ◌||◌, List, [], ◌∷◌, filter, map, length, get_or, drop, Option, Some, Err, IfSome, slice_get, refl, sym, ap, subst, ◌∙◌, add-one, drop-cons}
+use Rattle.std.proofs.Common.{◌≡◌, ℕ, ◌+◌, ◌<◌, Bool, true, false, ◌||◌, List, [], ◌∷◌, filter, map, length, get_or, drop, Option, Some, Ok, Err, IfSome, OnOk, Result as Returned, ◌≤◌, arith, slice_get, refl, sym, ap, subst, ◌∙◌, add-one, drop-cons}
 use Rattle.std.specs.List.{list_any}
 use Rattle.lf_model.specs.declared.frame.FrameProp.{FrameProp}
 use Rattle.lf_model.specs.declared.frame.FrameNode.{FrameNode}
@@ -14,6 +14,9 @@ use Rattle.lf_embed.specs.Runs.{default_step, run_of}
 use Rattle.def_nested.specs.Nested.{Nested, props_list, props_of}
 use Rattle.def_nested.specs.Unfolding.{Numbered, above, build_props, nested, sub_frame}
 use Rattle.def_framing.specs.Parts.{default_next, default_part, takes_default}
+use Rattle.def_framing.proofs.Sizes.{properties_size}
+use Rattle.def_framing.proofs.Counted.{default_part_adds}
+use Rattle.def_framing.proofs.Counting.{Adds}
 use Rattle.def_framing.specs.Results.{Result, State, choose, gives, then, through}
 
 pub any_mapped : {A B : Type 0} (p : B → Bool) (f : A → B) (xs : List A) → list_any (λ x. p (f x)) xs ≡ list_any p (map f xs)
@@ -101,3 +104,14 @@ row_defaults rows f at row outputs state is found =
     ap (λ ps. through default_next [] (filter (takes_default (nested rows at) outputs) (props_list ps)) state)
     (sym (ap props_of (with_row rows at row found)))
     ∙ ap (λ g. default_part g outputs state) (sym (ap (form_of rows) is))
+
+-- the count never falls
+pub defaults_grow :
+    {T : Type 0} (f : T → Outputs) (frame : Nested) (outputs : Outputs) (state after : State) (r : Returned T Stop) →
+    IfSome (run_of f r after) (λ q. q ≡ default_part frame outputs state) → OnOk r (state.count ≤ after.count)
+defaults_grow f frame outputs state after (Err e) run = tt
+defaults_grow f frame outputs state after (Ok made) run =
+    let adds : Adds properties_size state (gives (f made) after) =
+    subst (λ q. Adds properties_size state q) (sym run) (default_part_adds frame outputs state)
+    in
+    omega (arith, adds.count)

@@ -7,3 +7,12 @@ pub mod WalkProofs
 pub mod FormProofs
 pub mod FittingProofs
 pub mod DefaultProofs
+pub mod ChoiceProofs
+pub mod PartProofs
+pub mod CycleProofs
+pub mod NearSteps
+pub mod NearParts
+pub mod Gains
+pub mod EmbedProofs
+pub mod ContentProofs
+pub mod TreeProofs

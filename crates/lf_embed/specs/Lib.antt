@@ -1,6 +1,10 @@
+pub mod Choices
 pub mod Forms
+pub mod Made
 pub mod PlaceLaws
 pub mod Places
 pub mod Runs
 pub mod Tokens
 pub mod Walks
+pub mod Cycle
+pub mod Embeds

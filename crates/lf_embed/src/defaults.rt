@@ -1,5 +1,5 @@
 //! The defaults of a node: the properties of the frame of which no value was output. Embedding calls it; it asks nothing.
-ghost use Rattle.std.specs.Prelude.{◌≡◌, [], IfSome, filter, map};
+ghost use Rattle.std.specs.Prelude.{◌≡◌, ◌≤◌, [], IfSome, OnOk, filter, map};
 ghost use Rattle.std.specs.List.{list_any};
 ghost use Rattle.lf_model.specs.TreeBridge.{entry_data, property_data};
 ghost use Rattle.def_nested.specs.Nested.{flags_of, props_list};
@@ -20,6 +20,20 @@ use std::alloc::Global;
 
 /// Each property of the frame that takes its default, in order (JSON-LD 1.1 Framing, section 4.2.3).
 pub fn default_part(
+    alloc: Global,
+    frame: &Frame,
+    form: Form,
+    values: &TreePropList,
+    walk: &mut Walk,
+) -> Result<TreePropList, Stop>
+    ensures run { IfSome (run_of (map property_data) result (state_of walk.new)) (λ r. r ≡ default_part (form_of frame.now.nodes form) (map property_data values.now) (state_of walk.old)) }
+    ensures path { path_of walk.new ≡ path_of walk.old }
+    ensures grows { OnOk result ((state_of walk.old).count ≤ (state_of walk.new).count) }
+{
+    form_defaults(alloc, frame, form, values, walk)
+}
+
+fn form_defaults(
     alloc: Global,
     frame: &Frame,
     form: Form,

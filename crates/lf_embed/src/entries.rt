@@ -1,11 +1,13 @@
 //! Outputs that ask nothing: references and default values. Embedding calls it.
-ghost use Rattle.std.specs.Prelude.{◌≡◌, [], ◌∷◌, IfOk, IfSome, Some, map};
+ghost use Rattle.std.specs.Prelude.{◌≡◌, ◌≤◌, [], ◌∷◌, IfOk, IfSome, OnOk, Some, map};
+ghost use Rattle.std.specs.Option.{option_map};
 ghost use Rattle.lf_model.specs.TreeData.{no_nodes, no_properties, no_reverses, tree};
 ghost use Rattle.lf_model.specs.TreeBridge.{entry_data, tree_data};
 ghost use Rattle.def_framing.specs.Embedding.{refer};
 ghost use Rattle.def_framing.specs.Parts.{default_entries, fallback_next};
 ghost use Rattle.def_framing.specs.Results.{through};
 ghost use Rattle.lf_model.specs.declared.frame.DefaultValue.TheVariants.{Null};
+ghost use Rattle.lf_embed.specs.Made.{literal_output};
 ghost use Rattle.lf_embed.specs.Runs.{run_of};
 ghost use Rattle.lf_embed.specs.Walks.{path_of, state_of};
 
@@ -22,10 +24,28 @@ use std::alloc::Global;
 pub fn refer(alloc: Global, id: &Term, walk: &mut Walk) -> Result<Tree, Stop>
     ensures run { IfSome (run_of tree_data result (state_of walk.new)) (λ r. r ≡ refer id.now (state_of walk.old)) }
     ensures path { path_of walk.new ≡ path_of walk.old }
+    ensures grows { OnOk result ((state_of walk.old).count ≤ (state_of walk.new).count) }
 {
     match walk.count_item() {
         Err(stop) => Err(stop),
         Ok(()) => Ok(reference(alloc, id)?),
+    }
+}
+
+/// A literal is output as it is.
+#[tactic(auto, using(lf_model::proofs::TreeLemmas::tree_cases))]
+pub fn emit_literal(
+    alloc: Global,
+    literal: &Term,
+    walk: &mut Walk,
+) -> Result<Option<TreeValue>, Stop>
+    ensures run { IfSome (run_of (option_map entry_data) result (state_of walk.new)) (λ r. r ≡ literal_output literal.now (state_of walk.old)) }
+    ensures path { path_of walk.new ≡ path_of walk.old }
+    ensures grows { OnOk result ((state_of walk.old).count ≤ (state_of walk.new).count) }
+{
+    match walk.count_item() {
+        Err(stop) => Err(stop),
+        Ok(()) => Ok(Some(TreeValue::Literal(literal.copy(alloc)?))),
     }
 }
 

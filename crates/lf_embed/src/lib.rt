@@ -1,12 +1,14 @@
 //! The plain document of a dataset, its nodes with their types and values, and the parts of embedding.
 #![tactic(auto)]
 
+mod choices;
 mod defaults;
 mod document;
 mod entries;
 mod facts;
 mod fitting;
 mod form;
+mod parts;
 mod place;
 mod runs;
 #[cfg(test)]
@@ -14,13 +16,17 @@ mod tests;
 mod walk;
 mod write;
 
+pub use choices::{
+    ReferenceRule, entering, framed_graph, is_left, reference_rule, seen_view, types_for,
+};
 pub use defaults::default_part;
 pub use document::small_document;
-pub use entries::{fallback_entries, null_entry, refer};
+pub use entries::{emit_literal, fallback_entries, null_entry, refer};
 pub use fitting::{form_accepts, form_matches};
 pub use form::{
     Form, WildFlags, flags_for, graph_form, item_form, numbered, omits, outputs, plain_flags,
     stated_form, sub_form,
 };
+pub use parts::{add_property, add_reverse, assemble, node_value, push_entry, push_tree};
 pub use place::{Place, same_graph};
 pub use walk::{ITEM_LIMIT, Stop, Walk};

@@ -30,14 +30,14 @@ nothing_marked labels none set x m = absurd (lacks x (subst (λ (w : List (List 
 pub nothing_few : (labels : List (List ℕ)) → labels ≡ [] → IsFew labels
 nothing_few labels none terms all = let h : length labels ≡ 0 = ap length none in omega arith
 
-no_cell : (d : List Quad) (g : GraphRef) (x : Term) → is_proper d g x ≡ false → false ≡ is_cell d g x
+pub no_cell : (d : List Quad) (g : GraphRef) (x : Term) → is_proper d g x ≡ false → false ≡ is_cell d g x
 no_cell d g x denied = go (is_cell d g x) refl
   where
     go : (b : Bool) → is_cell d g x ≡ b → false ≡ b
     go true e = absurd (true≢false (sym (cells_are_proper d g x e) ∙ denied))
     go false e = refl
 
-not_blank_proper : (d : List Quad) (g : GraphRef) (x : Term) → is_blank x ≡ false → is_proper d g x ≡ false
+pub not_blank_proper : (d : List Quad) (g : GraphRef) (x : Term) → is_blank x ≡ false → is_proper d g x ≡ false
 not_blank_proper d g x denied = go (is_proper d g x) refl
   where
     go : (b : Bool) → is_proper d g x ≡ b → b ≡ false

@@ -10,3 +10,5 @@ mod WalkStates
 mod ItemByItem
 mod Items
 mod ReadStates
+mod KnownWalks
+mod KnownClimbs

@@ -16,7 +16,7 @@ use Rattle.def_datasets.specs.Order.{text_cmp}
 use Rattle.def_datasets.proofs.Bools.{same_truth}
 use Rattle.def_datasets.proofs.SortedLaws.{has-put}
 use Rattle.def_datasets.proofs.OrderLaws.{text_strict}
-use Rattle.lf_lists.specs.Marks.{marked, AllMarked, HasMark}
+use Rattle.lf_lists.specs.Marks.{marked, AllMarked, HasMark, HasMarksOf}
 
 -- ---- a key is put as a value is put into an ascending list
 
@@ -122,3 +122,14 @@ has_mark before after label added keys told long ordered =
       longer = λ apart. grown before after label added told long apart;
       few = λ terms all. few_marks after ordered terms all;
     }
+
+-- ---- the marks of two sets
+
+pub union_marks : (one two after : List (List ℕ))
+    → ((q : List ℕ) → list_any (eq_by_cmp text_cmp q) after ≡ (list_any (eq_by_cmp text_cmp q) one || list_any (eq_by_cmp text_cmp q) two))
+    → HasMarksOf one two after
+union_marks one two after all (Iri iri) m = inl m
+union_marks one two after all (Blank label) m =
+    or_cases (list_any (text_eq label) one) (list_any (text_eq label) two)
+    (sym (λ i. same_search label one i || same_search label two i) ∙ (sym (all label) ∙ (same_search label after ∙ m)))
+union_marks one two after all (Literal a d l) m = inl m

@@ -44,7 +44,7 @@ module _ {d now : List Quad} {g : GraphRef} {start : Term} {before : List (List 
 
   module _ {told_after : Option (List Question)} {last_after : ℕ} {rest : Option Term}
       (asked : Learns (NearTo now next) now told told_after last last_after (λ other. shaped_rest other g next) rest) where
-    both : Hears (NearTo d start) d told_first told_after first last_after
+    pub both : Hears (NearTo d start) d told_first told_after first last_after
         (λ other. UnderWay other g before marks walked start next × (rest ≡ shaped_rest other g next))
     both = followed state.hears (wider state.near (moved state.stays (heard asked)))
 

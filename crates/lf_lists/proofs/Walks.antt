@@ -19,12 +19,12 @@ use Rattle.def_datasets.proofs.CellProofs.{Shape, shape, rounds_are_shaped, prop
 use Rattle.lf_lists.specs.Marks.{marked, AllMarked, HasMark}
 use Rattle.lf_lists.specs.Walking.{rest_if, shaped_rest, ends_well, Walked, UnderWay}
 
-marked_blank : (labels : List (List ℕ)) (x : Term) → marked labels x ≡ true → is_blank x ≡ true
+pub marked_blank : (labels : List (List ℕ)) (x : Term) → marked labels x ≡ true → is_blank x ≡ true
 marked_blank labels (Iri iri) e = absurd (false≢true e)
 marked_blank labels (Blank label) e = refl
 marked_blank labels (Literal a d l) e = absurd (false≢true e)
 
-blank_not_nil : (x : Term) → is_blank x ≡ true → is_iri rdf_nil x ≡ false
+pub blank_not_nil : (x : Term) → is_blank x ≡ true → is_iri rdf_nil x ≡ false
 blank_not_nil (Iri iri) e = absurd (false≢true e)
 blank_not_nil (Blank label) e = refl
 blank_not_nil (Literal a d l) e = absurd (false≢true e)

@@ -27,3 +27,7 @@ pub record HasMark (before after : List (List ℕ)) (node : Term) : Type 0 where
   pub only : (x : Term) → IsTrue (marked after x) → IsTrue (marked before x) ⊎ (x ≡ node)
   pub longer : IsFalse (marked before node) → length after ≡ length before + 1
   pub few : IsFew after
+
+-- marks of two sets, and no others
+abbrev pub HasMarksOf : List (List ℕ) → List (List ℕ) → List (List ℕ) → Type 0
+HasMarksOf one two after = (x : Term) → IsTrue (marked after x) → IsTrue (marked one x) ⊎ IsTrue (marked two x)

@@ -85,8 +85,8 @@ fn climbs_out<O: Oracle, L: Ledger>(
     }
 }
 
-// The node that uses another, by one question: the subject of its first use.
-fn user<O: Oracle, L: Ledger>(
+/// The node that uses another, by one question: the subject of its first use.
+pub(crate) fn user<O: Oracle, L: Ledger>(
     alloc: Global,
     oracle: &mut O,
     node: &Term,

@@ -1,7 +1,7 @@
 //! Marks on blank nodes: what a walk along a list has seen.
 ghost use Rattle.std.specs.Prelude.{◌≡◌, IsTrue, OnErr, OnOk};
 ghost use Rattle.def_datasets.specs.Terms.{is_blank};
-ghost use Rattle.lf_lists.specs.Marks.{HasMark, marked};
+ghost use Rattle.lf_lists.specs.Marks.{HasMark, HasMarksOf, marked};
 
 use lf_base::{Memory, Text, TryCopy};
 use lf_rdf::Term;
@@ -36,4 +36,12 @@ pub(crate) fn mark(alloc: Global, marks: &mut Marks, node: &Term) -> Result<(), 
         }
         Term::Literal { .. } => Ok(()),
     }
+}
+
+/// Moves all marks of a set to another. It takes a search for each.
+pub(crate) fn mark_all(marks: &mut Marks, more: &mut Marks) -> Result<(), Memory>
+    ensures { OnOk result (HasMarksOf marks.old.keys more.old.keys marks.new.keys) }
+{
+    marks.append(more)?;
+    Ok(())
 }

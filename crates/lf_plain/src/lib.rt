@@ -5,6 +5,8 @@ mod answers;
 mod members;
 mod order;
 mod plain;
+#[cfg(test)]
+mod tests;
 mod words;
 
 pub use plain::PlainQuads;

@@ -1,0 +1,10 @@
+mod Asked
+mod OneGraph
+mod Homes
+mod Merging
+mod Gathering
+mod Viewing
+mod States
+mod Arrows
+mod Subjects
+mod Listing

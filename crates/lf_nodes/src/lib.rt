@@ -1,0 +1,15 @@
+//! The nodes of a dataset's graphs over any oracle: the views that framing sees.
+#![tactic(auto)]
+
+mod asking;
+mod entries;
+mod home;
+mod keys;
+mod members;
+mod merged;
+mod nodes_over;
+mod pointing;
+mod values;
+mod view;
+
+pub use nodes_over::NodesOver;

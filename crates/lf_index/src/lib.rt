@@ -24,6 +24,8 @@ mod scan;
 mod shared;
 mod sorted;
 mod terms;
+#[cfg(test)]
+mod tests;
 
 pub use asker::Asker;
 pub use error::ApplyErr;

@@ -8,6 +8,8 @@ mod marks;
 mod proper;
 mod reader;
 mod shape;
+#[cfg(test)]
+mod tests;
 mod value;
 
 pub use asking::{is_named, quads_out, quads_using};

@@ -1,7 +1,7 @@
 -- Lists read item by item: what one step of a reader keeps.
-use Rattle.std.proofs.Common.{rules, ◌≡◌, refl, sym, ◌∙◌, ap, subst, ℕ, ◌+◌, ◌<◌, List, [], ◌∷◌, ◌++◌, map, length, Bool, true, false, not, ◌&&◌, ◌||◌, if◌then◌else◌, Option, Some, None, All, arith}
-use Rattle.std.proofs.lemmas.Bool.{true≢false, false≢true}
-use Rattle.std.proofs.lemmas.List.Elements.{All-push, All-head, All-nil}
+use Rattle.std.proofs.Common.{rules, ◌≡◌, refl, sym, ◌∙◌, ap, subst, ◌+◌, ◌<◌, List, [], ◌∷◌, ◌++◌, map, Bool, true, false, if◌then◌else◌, Some, All, arith}
+use Rattle.std.proofs.lemmas.Bool.{false≢true}
+use Rattle.std.proofs.lemmas.List.Elements.{All-push, All-head}
 use Rattle.lf_rdf.specs.declared.term.Term.{Term}
 use Rattle.lf_rdf.specs.declared.term.Term.TheVariants.{Iri, Blank, Literal}
 use Rattle.lf_rdf.specs.declared.quad.Quad.{Quad}
@@ -12,7 +12,6 @@ use Rattle.lf_model.specs.declared.value.Value.TheVariants as program
 use Rattle.lf_model.specs.declared.value.Value.{the_lemmas}
 use Rattle.lf_model.specs.ValueData.{ListValue, literal, reference, list, ListValues, no_values, value, values_of}
 use Rattle.lf_model.specs.ValueBridge.{value_data, values_data}
-use Rattle.def_datasets.specs.Near.{Near}
 use Rattle.def_datasets.specs.Terms.{is_node, is_iri}
 use Rattle.def_datasets.specs.Questions.{answers_of}
 use Rattle.def_datasets.specs.Cells.{item_of, rest_of, is_cell}

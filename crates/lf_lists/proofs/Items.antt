@@ -1,5 +1,5 @@
 -- The item and the rest of a cell: which item is a list, and what is near.
-use Rattle.std.proofs.Common.{◌≡◌, refl, sym, ◌∙◌, ap, subst, ℕ, List, [], ◌∷◌, cond, Bool, true, false, not, ◌&&◌, ◌||◌, ⊎_elim, Option, Some, None}
+use Rattle.std.proofs.Common.{◌≡◌, refl, sym, ◌∙◌, ap, ℕ, List, [], ◌∷◌, cond, Bool, true, false, not, ◌&&◌, ◌||◌, ⊎_elim, Some, None}
 use Rattle.std.specs.Cmp.Lexicographic.{bytes_decides}
 use Rattle.std.proofs.lemmas.Bool.{true≢false, false≢true, and_parts, and_from, or_cases, or_left, or_right}
 use Rattle.lf_rdf.specs.declared.term.Term.{Term}
@@ -12,7 +12,7 @@ use Rattle.lf_model.specs.ValueData.{list}
 use Rattle.def_datasets.specs.Sorted.{has}
 use Rattle.def_datasets.specs.Dataset.{holds}
 use Rattle.def_datasets.specs.Near.{Near}
-use Rattle.def_datasets.specs.Terms.{is_node, is_iri, tells_type, lies_in, is_use, uses}
+use Rattle.def_datasets.specs.Terms.{is_iri, tells_type, lies_in, is_use, uses}
 use Rattle.def_datasets.specs.Questions.{answers_of, out}
 use Rattle.def_datasets.specs.Cells.{with_predicate, is_one_in, object_of, subject_of, item_of, rest_of, user_of, begins_or, is_proper, is_cell}
 use Rattle.def_datasets.specs.Values.{value_of}

@@ -1,6 +1,6 @@
 -- Going back from a proper node where some nodes are known already: what holds before each node, and what the ends tell.
-use Rattle.std.proofs.Common.{◌≡◌, refl, sym, ◌∙◌, ap, subst, ℕ, ◌+◌, ◌-◌, ◌<◌, ◌≤◌, List, [], length, Bool, true, false, not, ◌⊎◌, inl, inr, ⊎_elim, Option, Some, None, arith}
-use Rattle.std.proofs.lemmas.Bool.{true≢false, false≢true}
+use Rattle.std.proofs.Common.{◌≡◌, refl, sym, ◌∙◌, ap, subst, ℕ, ◌+◌, ◌-◌, ◌<◌, ◌≤◌, List, [], length, Bool, true, false, not, ⊎_elim, Option, Some, None, arith}
+use Rattle.std.proofs.lemmas.Bool.{false≢true}
 use Rattle.lf_rdf.specs.declared.term.Term.{Term}
 use Rattle.lf_rdf.specs.declared.term.Term.TheVariants.{Iri, Blank, Literal}
 use Rattle.lf_rdf.specs.declared.quad.Quad.{Quad}
@@ -17,11 +17,11 @@ use Rattle.lf_lists.specs.Hearing.{Hears}
 use Rattle.lf_lists.specs.Marks.{marked, IsFew, HasMark, HasMarksOf}
 use Rattle.lf_lists.specs.Walking.{Examined}
 use Rattle.lf_lists.specs.Climbing.{GoesBack}
-use Rattle.lf_lists.specs.Known.{outside, Knows, IsExamined, IsFound, ClimbTells}
+use Rattle.lf_lists.specs.Known.{Knows, IsExamined, IsFound, ClimbTells}
 use Rattle.lf_lists.proofs.Hearings.{unheard, heard, heard_as, moved, followed, wider, holds_here}
 use Rattle.lf_lists.proofs.Walks.{proper_shaped, shaped_blank}
 use Rattle.lf_lists.proofs.Climbs.{few_proper, goes_back_begun, climbed_on, climbs_top, climbs_none, climbs_ring, near_user}
-use Rattle.lf_lists.proofs.CellTests.{nothing_marked, nothing_few, no_cell}
+use Rattle.lf_lists.proofs.CellTests.{nothing_few, no_cell}
 use Rattle.lf_lists.proofs.KnownWalks.{lies_outside}
 
 -- going back is under way, the nodes that were climbed are cells where the next node is one, and what is known holds

@@ -1,20 +1,20 @@
 -- The walk along `rdf:rest` where some nodes are known already: what its ends tell.
-use Rattle.std.proofs.Common.{◌≡◌, refl, sym, ◌∙◌, ap, subst, ℕ, ◌≤◌, List, [], length, Bool, true, false, not, ◌||◌, ◌⊎◌, ⊎_elim, Option, Some, None}
-use Rattle.std.proofs.lemmas.Bool.{true≢false, false≢true, or_left, or_right}
+use Rattle.std.proofs.Common.{◌≡◌, refl, sym, ◌∙◌, ap, subst, ℕ, List, [], Bool, true, false, not, ◌||◌, ⊎_elim, Option, None}
+use Rattle.std.proofs.lemmas.Bool.{false≢true, or_left, or_right}
 use Rattle.lf_rdf.specs.declared.term.Term.{Term}
 use Rattle.lf_rdf.specs.declared.quad.Quad.{Quad}
 use Rattle.lf_rdf.specs.declared.question.GraphRef.{GraphRef}
 use Rattle.lf_rdf.specs.declared.question.Question.{Question}
 use Rattle.lf_rdf.specs.Vocabulary.{rdf_nil}
 use Rattle.def_datasets.specs.Terms.{is_blank, is_iri}
-use Rattle.def_datasets.specs.Cells.{is_proper, is_cell}
+use Rattle.def_datasets.specs.Cells.{is_proper}
 use Rattle.lf_oracle.specs.Asking.{Learns}
 use Rattle.lf_lists.specs.declared.known.KnownCells.{KnownCells}
 use Rattle.lf_lists.specs.Learning.{NearTo}
 use Rattle.lf_lists.specs.Hearing.{Hears}
 use Rattle.lf_lists.specs.Marks.{marked, HasMarksOf}
 use Rattle.lf_lists.specs.Walking.{shaped_rest, ends_well, UnderWay}
-use Rattle.lf_lists.specs.Known.{outside, Knows, IsExamined, WalkTells}
+use Rattle.lf_lists.specs.Known.{Knows, IsExamined, WalkTells}
 use Rattle.lf_lists.proofs.Hearings.{unheard, heard_as}
 use Rattle.lf_lists.proofs.CellTests.{nothing_marked, not_blank_proper}
 use Rattle.lf_lists.proofs.Walks.{marked_blank, blank_not_nil, ends_blank, at_ring, at_stranger}

@@ -23,7 +23,7 @@ use Rattle.lf_lists.specs.declared.reader.Turn.TheVariants.{Whole, Goes}
 use Rattle.lf_lists.specs.Learning.{NearTo}
 use Rattle.lf_lists.specs.Hearing.{Hears}
 use Rattle.lf_lists.specs.Walking.{ends_well, Walked}
-use Rattle.lf_lists.specs.Reading.{items_in, items_at, IsListAt, ReadsAll, list_in, plain, before_all, nested_in, read_in, left_in, GoesOn, AreNear, AreNearIn, ArePartsOf, GoesUnder, GoesAlong, StepsOn, TurnTells}
+use Rattle.lf_lists.specs.Reading.{items_at, IsListAt, ReadsAll, list_in, plain, before_all, nested_in, read_in, left_in, GoesOn, AreNear, AreNearIn, ArePartsOf, GoesUnder, GoesAlong, StepsOn, TurnTells}
 use Rattle.lf_lists.proofs.Hearings.{unheard, heard, heard_as, learnt, moved, followed, wider, holds_here, first_part, second_part}
 use Rattle.lf_lists.proofs.CellTests.{nothing_marked}
 use Rattle.lf_lists.proofs.ItemByItem.{CellParts, cell_parts_at, list_data, nil_at, nil_is_list, listed_cell, reads_plain, reads_nested}

@@ -1,39 +1,36 @@
 -- The keys that point at a node, by the quads that may point.
-use Rattle.std.proofs.Common.{◌≡◌, refl, sym, ◌∙◌, ap, subst, cond, ℕ, List, [], ◌∷◌, ◌++◌, map, filter, nat_eq, Bool, true, false, not, ◌&&◌, ◌||◌, ⊎_elim, inl, inr, Option, Some, None}
+use Rattle.std.proofs.Common.{◌≡◌, refl, sym, ◌∙◌, ap, subst, cond, ℕ, List, [], ◌∷◌, map, filter, Bool, true, false, not, ◌&&◌, ◌||◌}
 use Rattle.std.specs.List.{list_any}
-use Rattle.std.proofs.lemmas.Bool.{true≢false, false≢true, not-true, and_parts, and_from, or_cases, or_left, or_right}
+use Rattle.std.proofs.lemmas.Bool.{true≢false, false≢true, not-true, and_parts, and_from}
 use Rattle.lf_rdf.specs.declared.term.Term.{Term}
 use Rattle.lf_rdf.specs.declared.term.Term.TheVariants.{Iri, Blank, Literal}
 use Rattle.lf_rdf.specs.declared.quad.Quad.{Quad}
 use Rattle.lf_rdf.specs.declared.question.GraphRef.{GraphRef}
-use Rattle.lf_rdf.specs.declared.question.GraphRef.TheVariants as graph
-use Rattle.lf_rdf.specs.declared.question.Question.{Question}
 use Rattle.lf_rdf.specs.Vocabulary.{rdf_first, rdf_rest, rdf_nil, rdf_type, rdf_list}
 use Rattle.lf_rdf.specs.Canonical.{id_of}
 use Rattle.lf_rdf.specs.Equality.{text_eq, term_eq, quad_eq}
-use Rattle.lf_model.specs.ValueData.{ListValue, literal, reference, list, no_values, value}
-use Rattle.def_datasets.specs.Sorted.{has, ascends, set_of}
+use Rattle.def_datasets.specs.Sorted.{has, set_of}
 use Rattle.def_datasets.specs.Order.{id_cmp}
 use Rattle.def_datasets.specs.Dataset.{holds}
 use Rattle.def_datasets.specs.Terms.{is_node, is_iri, tells_type, lies_in, graph_of, is_use, uses}
 use Rattle.def_datasets.specs.Questions.{answers_of, inward, out, out_any}
-use Rattle.def_datasets.specs.Cells.{at_most_list_type, enough, has_list_form, is_cell, is_one, other_quads, with_predicate}
+use Rattle.def_datasets.specs.Cells.{at_most_list_type, enough, is_cell, is_one, other_quads, with_predicate}
 use Rattle.def_datasets.specs.Values.{value_of}
 use Rattle.def_datasets.specs.Views.{is_some_quad, is_type_quad, is_key, is_reference_to, pointing}
 use Rattle.def_datasets.specs.ViewLaws.{points}
 use Rattle.def_datasets.proofs.Bools.{and_false, same_truth}
-use Rattle.def_datasets.proofs.SortedLaws.{has-filter, same_members, same_itself, ascends-set_of}
+use Rattle.def_datasets.proofs.SortedLaws.{has-filter, same_members, ascends-set_of}
 use Rattle.def_datasets.proofs.OrderLaws.{id_strict, quad_decides, quad_strict, term_decides, text_strict}
 use Rattle.def_datasets.proofs.CellProofs.{Shape, shape, rounds_are_shaped, cells_are_proper}
 use Rattle.def_datasets.proofs.ValueProofs.{cell_values, literal_values, nil_value, reference_values}
-use Rattle.def_datasets.proofs.ViewProofs.{any-filter, any-map, any_mono, any_found}
+use Rattle.def_datasets.proofs.ViewProofs.{any-filter, any-map, any_found}
 use Rattle.def_datasets.proofs.TellProofs.{shared_objects}
 use Rattle.def_datasets.proofs.PointingProofs.{pointing_in_order, pointing_is_told}
 use Rattle.lf_order.proofs.SetLemmas.{has-set_of}
 use Rattle.lf_nodes.specs.Keys.{used_in, names_in}
 use Rattle.lf_nodes.specs.Pointing.{arrows, begins_plainly, is_arrow, is_link, is_plain, is_referred, subject_test}
 use Rattle.lf_nodes.proofs.Homes.{lies_itself, no_cell, one_graph_of}
-use Rattle.lf_nodes.proofs.Merging.{filter_agree, key_at, key_of_own, in_own}
+use Rattle.lf_nodes.proofs.Merging.{key_at, key_of_own, in_own}
 use Rattle.lf_nodes.proofs.OneGraph.{one_key}
 
 -- ---- the question for a plain property

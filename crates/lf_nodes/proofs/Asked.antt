@@ -1,5 +1,5 @@
 -- One question for quads or for terms, as something learnt.
-use Rattle.std.proofs.Common.{◌≡◌, refl, sym, ◌∙◌, ap, subst, ℕ, ◌+◌, List, [], ◌∷◌, Bool, true, Option, Result, Ok, Err, IfOk, OnOk, inl}
+use Rattle.std.proofs.Common.{◌≡◌, refl, sym, ◌∙◌, ap, subst, ℕ, ◌+◌, List, [], ◌∷◌, true, Option, Result, Ok, Err, IfOk, OnOk, inl}
 use Rattle.std.proofs.lemmas.List.Elements.{All-cons, All-nil, All-head}
 use Rattle.lf_base.specs.declared.memory.Memory.{Memory}
 use Rattle.lf_rdf.specs.declared.quad.Quad.{Quad}

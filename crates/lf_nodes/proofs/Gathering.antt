@@ -1,5 +1,5 @@
 -- Quads in order of properties, taken property by property.
-use Rattle.std.proofs.Common.{◌≡◌, ℕ, suc, ◌+◌, ◌<◌, Bool, true, false, cond, not, ◌||◌, ◌&&◌, List, [], ◌∷◌, ◌++◌, refl, ap, sym, ◌∙◌, subst, map, take, drop, filter, length, Option, Some, None, slice_get, IsSomeAnd, arith}
+use Rattle.std.proofs.Common.{◌≡◌, ℕ, suc, ◌+◌, ◌<◌, Bool, true, false, cond, not, ◌||◌, ◌&&◌, List, [], ◌∷◌, refl, ap, sym, ◌∙◌, subst, map, take, drop, filter, length, None, slice_get, IsSomeAnd, arith}
 use Rattle.std.specs.Prelude.{⊤}
 use Rattle.std.specs.declared.cmp.Ordering.{Ordering}
 use Rattle.std.specs.declared.cmp.Ordering.TheVariants.{Less, Equal, Greater}
@@ -10,7 +10,7 @@ use Rattle.std.proofs.lemmas.Bool.{true≢false, false≢true, and_parts, and_fr
 use Rattle.lf_rdf.specs.declared.quad.Quad.{Quad}
 use Rattle.lf_rdf.specs.Equality.{text_eq}
 use Rattle.lf_model.specs.ValueData.{ListValue}
-use Rattle.def_datasets.specs.Sorted.{has, ascends, placed, put, put_all, set_of}
+use Rattle.def_datasets.specs.Sorted.{ascends, placed, put, put_all}
 use Rattle.def_datasets.specs.Order.{text_cmp, term_cmp}
 use Rattle.def_datasets.specs.Views.{ViewProperty, properties_in}
 use Rattle.def_datasets.proofs.SortedLaws.{same_members, ascends-set_of}

@@ -10,9 +10,9 @@ use Rattle.def_datasets.specs.Terms.{is_blank, lies_in, graph_named, graph_of, u
 use Rattle.def_datasets.specs.Questions.{answers_of, named, out}
 use Rattle.def_datasets.specs.Cells.{enough, has_list_form, is_one_in, is_shaped, is_cell}
 use Rattle.def_datasets.proofs.OrderLaws.{term_decides}
-use Rattle.def_datasets.proofs.CellProofs.{Shape, shape, rounds_are_shaped, cells_are_proper, cells_are_used_once}
+use Rattle.def_datasets.proofs.CellProofs.{shape, rounds_are_shaped, cells_are_proper, cells_are_used_once}
 use Rattle.lf_oracle.specs.Asking.{is_one_graph}
-use Rattle.lf_nodes.specs.Keys.{IsHome, at_home, only_quad}
+use Rattle.lf_nodes.specs.Keys.{IsHome, only_quad}
 
 -- ---- graphs of quads
 

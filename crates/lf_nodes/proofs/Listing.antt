@@ -1,13 +1,12 @@
 -- The keys of a graph among its nodes, and those of all graphs.
-use Rattle.std.proofs.Common.{◌≡◌, refl, sym, ◌∙◌, ap, subst, cond, ℕ, suc, ◌+◌, ◌<◌, List, [], ◌∷◌, ◌++◌, length, map, filter, flat_map, take, Bool, true, false, not, ◌&&◌, ◌||◌, ⊎_elim, inl, inr, get_or, if◌then◌else◌, Option, Some, None, is_some, arith}
+use Rattle.std.proofs.Common.{◌≡◌, refl, sym, ◌∙◌, ap, subst, cond, ℕ, suc, ◌+◌, ◌<◌, List, [], ◌∷◌, ◌++◌, length, filter, flat_map, take, Bool, true, false, not, ◌&&◌, ◌||◌, ⊎_elim, inr, get_or, if◌then◌else◌, Option, Some, None, is_some, arith}
 use Rattle.std.specs.List.{list_any}
 use Rattle.std.proofs.Math.Seq.{take-length, take-suc}
-use Rattle.std.proofs.lemmas.Bool.{true≢false, false≢true, and_parts, and_from, or_cases, or_left, or_right}
+use Rattle.std.proofs.lemmas.Bool.{false≢true, and_parts, and_from, or_cases, or_left, or_right}
 use Rattle.std.proofs.lemmas.Grind.{flat_map-append}
 use Rattle.std.proofs.lemmas.List.{append_assoc, append-nil}
 use Rattle.std.proofs.lemmas.List.Folds.{list_any_at}
 use Rattle.lf_rdf.specs.declared.term.Term.{Term}
-use Rattle.lf_rdf.specs.declared.term.Term.TheVariants.{Iri, Blank, Literal}
 use Rattle.lf_rdf.specs.declared.quad.Quad.{Quad}
 use Rattle.lf_rdf.specs.declared.question.GraphRef.{GraphRef}
 use Rattle.lf_rdf.specs.declared.question.GraphRef.TheVariants as graph
@@ -20,7 +19,7 @@ use Rattle.def_datasets.specs.Terms.{is_node, is_iri, tells_type, lies_in, label
 use Rattle.def_datasets.specs.Questions.{answers_of, members, named, nodes_in, out}
 use Rattle.def_datasets.specs.Questions as ask_of
 use Rattle.def_datasets.specs.Cells.{enough, is_cell}
-use Rattle.def_datasets.specs.Views.{is_default, is_key, is_some_quad, key_by, keys, members_by, quads_of}
+use Rattle.def_datasets.specs.Views.{is_key, is_some_quad, keys, quads_of}
 use Rattle.def_datasets.proofs.Bools.{same_truth}
 use Rattle.def_datasets.proofs.SortedLaws.{ascends-set_of, has-filter, same_itself, same_members}
 use Rattle.def_datasets.proofs.OrderLaws.{id_strict, term_decides}

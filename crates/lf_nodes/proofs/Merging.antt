@@ -1,5 +1,5 @@
 -- The keys of the merged graph by a node's quads and uses outside the graph in which it is a cell.
-use Rattle.std.proofs.Common.{◌≡◌, refl, sym, ◌∙◌, ap, subst, cond, List, [], ◌∷◌, ◌++◌, map, filter, Bool, true, false, not, ◌&&◌, ◌||◌, ⊎_elim, Option, Some, None}
+use Rattle.std.proofs.Common.{◌≡◌, refl, sym, ◌∙◌, ap, cond, List, [], ◌∷◌, ◌++◌, map, filter, Bool, true, false, not, ◌&&◌, ◌||◌, ⊎_elim, Option, Some, None}
 use Rattle.std.specs.List.{list_any}
 use Rattle.std.proofs.lemmas.Bool.{true≢false, false≢true, and_parts, and_from, or_cases, or_left, or_right}
 use Rattle.lf_rdf.specs.declared.term.Term.{Term}
@@ -20,7 +20,7 @@ use Rattle.def_datasets.proofs.OrderLaws.{quad_strict}
 use Rattle.def_datasets.proofs.QuestionProofs.{any-append}
 use Rattle.def_datasets.proofs.ViewProofs.{any_mono, any-filter, any-map, any_found}
 use Rattle.lf_oracle.specs.Asking.{is_one_graph}
-use Rattle.lf_nodes.specs.Keys.{IsHome, at_home, away, used_away, used_in, names_in, kept_if, key_quads}
+use Rattle.lf_nodes.specs.Keys.{IsHome, away, used_away, used_in, names_in, kept_if, key_quads}
 use Rattle.lf_nodes.proofs.Homes.{lies_itself, graph_lies, one_graph_of, cell_unnamed}
 
 -- ---- filters

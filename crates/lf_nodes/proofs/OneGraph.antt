@@ -1,5 +1,5 @@
 -- The key of one graph by its parts.
-use Rattle.std.proofs.Common.{◌≡◌, refl, sym, ◌∙◌, ap, ℕ, List, [], ◌∷◌, Bool, true, false, not, ◌&&◌, ◌||◌, Option, Some, None}
+use Rattle.std.proofs.Common.{◌≡◌, refl, sym, ◌∙◌, ap, List, Bool, true, false, not, ◌&&◌, ◌||◌, Option, Some, None}
 use Rattle.std.specs.List.{list_any}
 use Rattle.std.proofs.lemmas.Bool.{true≢false, false≢true}
 use Rattle.lf_rdf.specs.declared.term.Term.{Term}
@@ -10,7 +10,7 @@ use Rattle.lf_rdf.specs.Vocabulary.{rdf_nil}
 use Rattle.def_datasets.specs.Terms.{is_node, is_iri, lies_in, uses}
 use Rattle.def_datasets.specs.Questions.{answers_of, named, out}
 use Rattle.def_datasets.specs.Cells.{enough, is_cell}
-use Rattle.def_datasets.specs.Views.{is_some_quad, is_default, is_key, key_by, quads_of}
+use Rattle.def_datasets.specs.Views.{is_some_quad, is_default, is_key, quads_of}
 use Rattle.lf_oracle.specs.Asking.{is_one_graph}
 use Rattle.lf_nodes.specs.Keys.{away, kept_if, key_quads, names_in, used_away, used_in}
 

@@ -1,5 +1,5 @@
 -- Values and properties that are asked for one after the other: the states of the loops, and a step of each.
-use Rattle.std.proofs.Common.{◌≡◌, refl, sym, ◌∙◌, ap, subst, cond, ℕ, suc, ◌+◌, ◌<◌, List, [], ◌∷◌, ◌++◌, length, map, take, filter, Bool, true, false, not, ◌&&◌, get_or, Option, Some, None, slice_get, IsSomeAnd, arith}
+use Rattle.std.proofs.Common.{◌≡◌, refl, sym, ◌∙◌, ap, subst, cond, ℕ, suc, ◌+◌, ◌<◌, List, [], ◌∷◌, ◌++◌, length, map, take, filter, Bool, true, false, not, get_or, Option, Some, None, slice_get, IsSomeAnd, arith}
 use Rattle.std.specs.List.{list_all}
 use Rattle.std.specs.Ordering.{is_lt}
 use Rattle.std.proofs.Math.Seq.{take-length, take-suc}
@@ -15,7 +15,6 @@ use Rattle.lf_model.specs.declared.value.Prop.{Prop}
 use Rattle.lf_model.specs.ValueBridge.{value_data}
 use Rattle.lf_model.specs.ValueData.{ListValue}
 use Rattle.def_datasets.specs.Sorted.{ascends, has}
-use Rattle.def_datasets.specs.Near.{Near}
 use Rattle.def_datasets.specs.Views.{ViewProperty}
 use Rattle.def_datasets.proofs.OrderLaws.{quad_strict}
 use Rattle.def_datasets.proofs.SortedLaws.{has-filter, same_itself}
@@ -25,7 +24,7 @@ use Rattle.lf_lists.specs.Hearing.{Hears}
 use Rattle.lf_lists.specs.Learning.{NearTo}
 use Rattle.lf_lists.proofs.Hearings.{followed, heard, heard_as, moved, unheard, wider}
 use Rattle.lf_nodes.specs.Properties.{AreNear, entry_cmp, gathered, property_of, quad_value, under, valued}
-use Rattle.lf_nodes.proofs.Gathering.{cut_others, fewer_others, gather_step, no_first}
+use Rattle.lf_nodes.proofs.Gathering.{fewer_others, gather_step, no_first}
 
 -- ---- values
 

@@ -1,9 +1,9 @@
 -- The subjects of quads that may point, tested one after the other.
-use Rattle.std.proofs.Common.{◌≡◌, refl, sym, ◌∙◌, ap, subst, cond, ℕ, suc, ◌+◌, ◌<◌, List, [], ◌∷◌, ◌++◌, length, map, filter, take, Bool, true, false, not, ◌&&◌, ◌||◌, ⊎_elim, inl, inr, get_or, Option, Some, None, slice_get, arith}
+use Rattle.std.proofs.Common.{◌≡◌, refl, sym, ◌∙◌, ap, subst, cond, ℕ, suc, ◌+◌, ◌<◌, List, [], ◌∷◌, ◌++◌, length, map, filter, take, Bool, true, false, ◌&&◌, ⊎_elim, inl, inr, get_or, Option, Some, None, arith}
 use Rattle.std.specs.List.{list_any}
 use Rattle.std.proofs.Math.Seq.{take-length, take-suc}
-use Rattle.std.proofs.lemmas.Bool.{true≢false, false≢true, and_parts, and_from, or_cases, or_left, or_right}
-use Rattle.std.proofs.lemmas.List.{append_assoc, append-nil, map-append}
+use Rattle.std.proofs.lemmas.Bool.{false≢true, and_from, or_cases, or_left}
+use Rattle.std.proofs.lemmas.List.{append-nil, map-append}
 use Rattle.std.proofs.lemmas.List.Folds.{list_any_at}
 use Rattle.lf_rdf.specs.declared.term.Term.{Term}
 use Rattle.lf_rdf.specs.declared.term.Term.TheVariants.{Iri, Blank, Literal}
@@ -15,12 +15,11 @@ use Rattle.lf_rdf.specs.Canonical.{id_of}
 use Rattle.lf_rdf.specs.Equality.{text_eq, term_eq, quad_eq}
 use Rattle.def_datasets.specs.Sorted.{has, set_of}
 use Rattle.def_datasets.specs.Order.{id_cmp}
-use Rattle.def_datasets.specs.Dataset.{holds}
 use Rattle.def_datasets.specs.Terms.{graph_of, is_iri, is_node, lies_in}
 use Rattle.def_datasets.specs.Views.{pointing}
 use Rattle.def_datasets.specs.Questions.{inward}
 use Rattle.def_datasets.proofs.OrderLaws.{quad_decides, quad_strict, term_decides, text_strict}
-use Rattle.def_datasets.proofs.SortedLaws.{has-filter, same_itself}
+use Rattle.def_datasets.proofs.SortedLaws.{same_itself}
 use Rattle.def_datasets.proofs.ViewProofs.{any-filter, any_mono}
 use Rattle.lf_oracle.specs.Asking.{Learns}
 use Rattle.lf_oracle.specs.Nearby.{IsNearOne, IsPointing}

@@ -1,5 +1,5 @@
 -- The properties of a view from its quads in order.
-use Rattle.std.proofs.Common.{◌≡◌, refl, sym, ◌∙◌, ap, subst, cond, ℕ, List, [], ◌∷◌, map, filter, Bool, true, false, not, ◌&&◌, ◌||◌, ⊎_elim, Option, Some, None, option_map, Ordering, Less, Equal, Greater, if◌then◌else◌}
+use Rattle.std.proofs.Common.{◌≡◌, refl, sym, ◌∙◌, ap, subst, cond, ℕ, List, [], ◌∷◌, map, filter, Bool, true, false, not, ◌&&◌, ◌||◌, ⊎_elim, Some, None, Ordering, Less, Equal, Greater, if◌then◌else◌}
 use Rattle.std.specs.List.{list_all, list_any}
 use Rattle.std.specs.Ordering.{is_eq, is_lt, on, ordering_then}
 use Rattle.std.specs.Cmp.{tied_itself}
@@ -15,12 +15,12 @@ use Rattle.def_datasets.specs.Order.{term_cmp, text_cmp}
 use Rattle.def_datasets.specs.Dataset.{holds}
 use Rattle.def_datasets.specs.Near.{Near, itself, by_object}
 use Rattle.def_datasets.specs.Terms.{lies_in, graph_of}
-use Rattle.def_datasets.specs.Questions.{answers_of, out, out_any}
+use Rattle.def_datasets.specs.Questions.{answers_of, out_any}
 use Rattle.def_datasets.specs.Cells.{enough}
 use Rattle.def_datasets.specs.Views.{View, ViewProperty, is_type_quad, key_in, is_key, property_quads, properties_in, property_by, quads_of, quads_under, types_in, view_from, view_of}
 use Rattle.def_datasets.proofs.SortedLaws.{has-filter, same_members, same_itself}
-use Rattle.def_datasets.proofs.OrderLaws.{quad_decides, quad_strict, term_decides, term_strict, text_strict}
-use Rattle.def_datasets.proofs.ViewProofs.{any-filter, any-map, any_mono}
+use Rattle.def_datasets.proofs.OrderLaws.{quad_strict, term_decides, term_strict, text_strict}
+use Rattle.def_datasets.proofs.ViewProofs.{any-filter, any-map}
 use Rattle.def_datasets.proofs.TellProofs.{objects_are_told, objects_in_order, shared_objects}
 use Rattle.lf_order.proofs.Ties.{equal_from, then_first}
 use Rattle.def_datasets.proofs.OrderLaws.{then_second}

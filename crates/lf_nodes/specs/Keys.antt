@@ -1,5 +1,5 @@
 -- The quads that a view is made of, where there is one.
-use Rattle.std.specs.Prelude.{◌≡◌, List, [], ◌∷◌, Bool, true, false, ◌&&◌, ◌||◌, not, Option, Some, None}
+use Rattle.std.specs.Prelude.{◌≡◌, List, [], ◌∷◌, Bool, true, false, ◌&&◌, not, Option, Some, None}
 use Rattle.std.specs.List.{list_any}
 use Rattle.lf_rdf.specs.declared.term.Term.{Term}
 use Rattle.lf_rdf.specs.declared.quad.Quad.{Quad}

@@ -1,8 +1,7 @@
 -- What points at a node: the quads that may, and the test of their subjects.
-use Rattle.std.specs.Prelude.{◌≡◌, ◌⊎◌, List, [], ◌∷◌, ℕ, nat_eq, Bool, true, false, ◌&&◌, ◌||◌, not, IsTrue, if◌then◌else◌, Option, Some, None}
-use Rattle.std.specs.List.{filter, list_any}
+use Rattle.std.specs.Prelude.{◌⊎◌, List, [], ◌∷◌, ℕ, nat_eq, Bool, false, ◌&&◌, ◌||◌, not, IsTrue, if◌then◌else◌, Option, Some, None}
+use Rattle.std.specs.List.{filter}
 use Rattle.lf_rdf.specs.declared.term.Term.{Term}
-use Rattle.lf_rdf.specs.declared.term.Term.TheVariants.{Iri, Blank, Literal}
 use Rattle.lf_rdf.specs.declared.quad.Quad.{Quad}
 use Rattle.lf_rdf.specs.declared.question.GraphRef.{GraphRef}
 use Rattle.lf_rdf.specs.declared.question.Question.{Question}

@@ -1,4 +1,4 @@
-use Rattle.std.proofs.Common.{sym, ◌∙◌, ap, subst, None, Some}
+use Rattle.std.proofs.Common.{sym, ◌∙◌, ap, subst, Some}
 use Rattle.def_datasets.specs.Cells.{is_cell}
 use Rattle.lf_lists.proofs.Hearings.{heard, heard_as}
 use Rattle.lf_nodes.specs.Keys.{IsHome}

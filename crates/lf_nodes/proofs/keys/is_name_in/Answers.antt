@@ -1,5 +1,5 @@
 use Rattle.std.proofs.Common.{sym, ◌∙◌, false}
-use Rattle.lf_lists.proofs.Hearings.{heard, learnt, unheard}
+use Rattle.lf_lists.proofs.Hearings.{learnt, unheard}
 use Rattle.lf_nodes.specs.Keys.{names_in}
 use Rattle.lf_nodes.proofs.OneGraph.{no_name}
 use Rattle.lf_nodes.proofs.keys.is_name_in.Goals as goal

@@ -1,7 +1,6 @@
 use Rattle.std.proofs.Common.{sym, ◌∙◌, ap, false}
 use Rattle.std.specs.List.{list_any}
 use Rattle.def_datasets.specs.Terms.{lies_in}
-use Rattle.lf_lists.specs.Learning.{NearTo}
 use Rattle.lf_lists.proofs.Hearings.{heard, learnt, unheard}
 use Rattle.lf_nodes.specs.Keys.{used_in}
 use Rattle.lf_nodes.proofs.OneGraph.{used_nil, used_by}

@@ -1,4 +1,4 @@
-use Rattle.std.proofs.Common.{◌∙◌, ◌++◌, ◌∷◌, [], sym, ap, rules}
+use Rattle.std.proofs.Common.{◌∙◌, sym, rules}
 use Rattle.lf_lists.proofs.Hearings.{heard, heard_as}
 use Rattle.lf_nodes.proofs.Subjects.{subject_left, subject_put}
 use Rattle.lf_nodes.proofs.pointing.put_subject.Goals as goal

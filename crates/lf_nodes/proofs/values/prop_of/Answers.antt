@@ -1,4 +1,3 @@
-use Rattle.std.proofs.Common.{◌∙◌, ap}
 use Rattle.lf_lists.proofs.Hearings.{heard_as}
 use Rattle.lf_nodes.proofs.values.prop_of.Goals as goal
 

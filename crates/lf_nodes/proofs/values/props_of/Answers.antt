@@ -1,5 +1,5 @@
-use Rattle.std.proofs.Common.{◌≡◌, sym, ◌∙◌, ap, not, subst}
-use Rattle.lf_nodes.specs.Properties.{under, property_of}
+use Rattle.std.proofs.Common.{sym}
+use Rattle.lf_nodes.specs.Properties.{under}
 use Rattle.lf_nodes.proofs.States.{props_begun, props_more, props_done, first_of, run_near, left_smaller}
 use Rattle.lf_nodes.proofs.values.props_of.Goals as goal
 

@@ -1,4 +1,4 @@
-use Rattle.std.proofs.Common.{◌≡◌, sym, ◌∙◌, ap, arith, subst, get_or}
+use Rattle.std.proofs.Common.{◌≡◌, sym, arith, subst, get_or}
 use Rattle.lf_nodes.proofs.States.{values_begun, values_more, values_done}
 use Rattle.lf_nodes.proofs.values.values_of.Goals as goal
 

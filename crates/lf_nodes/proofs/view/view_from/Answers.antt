@@ -1,4 +1,4 @@
-use Rattle.std.proofs.Common.{◌∙◌, ap, sym}
+use Rattle.std.proofs.Common.{◌∙◌, ap}
 use Rattle.def_datasets.specs.Sorted.{ascends}
 use Rattle.def_datasets.specs.Views.{types_in}
 use Rattle.lf_lists.proofs.Hearings.{heard_as}

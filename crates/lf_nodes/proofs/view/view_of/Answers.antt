@@ -1,4 +1,4 @@
-use Rattle.std.proofs.Common.{◌∙◌, ap, sym, subst, Some}
+use Rattle.std.proofs.Common.{◌∙◌, sym, subst, Some}
 use Rattle.def_datasets.specs.Views.{view_of}
 use Rattle.lf_oracle.specs.NodeViews.{view_data}
 use Rattle.lf_lists.proofs.Hearings.{followed, heard, holds_here, learnt, moved}

@@ -1,5 +1,5 @@
 -- What each function of embedding gives at its ends: the contents of a node, its values and its reverse properties.
-use Rattle.std.proofs.Common.{◌≡◌, ◌<◌, inl, inr, ℕ, Bool, true, false, List, [], ◌∷◌, ◌++◌, map, get_or, length, slice_get, Option, Some, None, option_map, Ok, Err, IfSome, refl, sym, ap, subst, ◌∙◌}
+use Rattle.std.proofs.Common.{◌≡◌, inl, inr, ℕ, Bool, true, false, List, [], ◌∷◌, ◌++◌, map, slice_get, Option, Some, None, option_map, Err, IfSome, refl, sym, ap, subst, ◌∙◌}
 use Rattle.std.specs.Bool.{IsTrue}
 use Rattle.std.specs.List.{list_any}
 use Rattle.lf_rdf.specs.Equality.{term_eq}
@@ -8,27 +8,25 @@ use Rattle.lf_rdf.specs.declared.term.Term.TheVariants.{Iri}
 use Rattle.lf_rdf.specs.declared.quad.Quad.{Quad}
 use Rattle.lf_rdf.specs.declared.question.GraphRef.{GraphRef}
 use Rattle.lf_rdf.specs.declared.question.Question.{Question}
-use Rattle.lf_model.specs.declared.document.Limit.{Limit}
 use Rattle.lf_model.specs.declared.document.Limit.TheVariants.{TreeItems}
 use Rattle.lf_model.specs.declared.frame.FrameNode.{FrameNode}
-use Rattle.lf_model.specs.declared.frame.FrameReverse.{FrameReverse}
 use Rattle.lf_model.specs.declared.value.Prop.{Prop}
 use Rattle.lf_model.specs.declared.value.Value.{Value}
 use Rattle.lf_model.specs.declared.value.Value.TheVariants as v
 use Rattle.lf_model.specs.ValueBridge.{value_data}
-use Rattle.lf_model.specs.ValueData.{ListValue, list, literal, reference, values_of}
+use Rattle.lf_model.specs.ValueData.{ListValue, reference, values_of}
 use Rattle.lf_model.proofs.ValueLemmas.{value_data-List, value_data-Literal, value_data-Ref}
 use Rattle.lf_model.specs.TreeData.{TreeNode, TreeNodes, TreeEntry, TreeEntries, entries_of, list_entry, node_entry, tree, nodes_of, properties_of, reverses_of}
 use Rattle.lf_oracle.specs.Asking.{Learns}
 use Rattle.lf_oracle.specs.Nearby.{IsNearOne, IsOfNode, IsPointing}
 use Rattle.lf_oracle.specs.NodeViews.{pointing_at}
 use Rattle.lf_match.specs.NearNodes.{IsNearOneFor, IsOfValue, IsOfValues}
-use Rattle.lf_match.proofs.NearTerms.{AreAmong, none_among, themselves, this_value_refers}
+use Rattle.lf_match.proofs.NearTerms.{AreAmong, none_among, themselves}
 use Rattle.lf_match.proofs.RowProofs.{with_row}
 use Rattle.def_nested.specs.Nested.{Nested, flags_of, no_reverses, reverse_props_of, reverses_list}
-use Rattle.def_nested.specs.Unfolding.{Numbered, above, build_reverses, nested}
+use Rattle.def_nested.specs.Unfolding.{above, build_reverses, nested}
 use Rattle.def_datasets.specs.Near.{Near, itself}
-use Rattle.def_datasets.specs.Views.{View, ViewProperty, pointing}
+use Rattle.def_datasets.specs.Views.{View, pointing}
 use Rattle.def_framing.specs.Embedding.{contents, embed}
 use Rattle.def_framing.specs.Matching.{accepts, matches}
 use Rattle.def_framing.specs.Nearness.{in_reverses, reversed_in}

@@ -1,5 +1,5 @@
 -- What the functions of embedding give is what the definitions say.
-use Rattle.std.proofs.Common.{◌≡◌, ◌≢◌, ℕ, zero, suc, ◌-◌, Bool, true, false, List, [], ◌∷◌, ◌++◌, map, filter, Option, Some, None, refl, sym, ap, ◌∙◌, arith}
+use Rattle.std.proofs.Common.{◌≡◌, ◌≢◌, ℕ, zero, suc, ◌-◌, Bool, true, false, List, [], ◌∷◌, ◌++◌, map, filter, Some, None, refl, sym, ap, ◌∙◌, arith}
 use Rattle.lf_rdf.specs.declared.term.Term.{Term}
 use Rattle.lf_rdf.specs.declared.question.GraphRef.{GraphRef}
 use Rattle.lf_model.specs.declared.frame.FrameReverse.{FrameReverse}
@@ -13,11 +13,11 @@ use Rattle.def_nested.specs.Unfolding.{Numbered, build_reverses}
 use Rattle.def_datasets.specs.Views.{View}
 use Rattle.def_framing.specs.Embedding.{contents, embed}
 use Rattle.def_framing.specs.Matching.{accepts, matches}
-use Rattle.def_framing.specs.Parts.{Embedding, embed_all, embed_next, emit, emit_all, reverse_next, reverse_part, value_next, value_part, with_property, with_reverse}
+use Rattle.def_framing.specs.Parts.{Embedding, embed_all, embed_next, emit, emit_all, reverse_next, value_next, value_part, with_property, with_reverse}
 use Rattle.def_framing.specs.Results.{State, Result, choose, entered, gives, item, over, then, through}
 use Rattle.def_framing.specs.Steps.{is_output, item_frame, seen, sub_for}
 use Rattle.def_framing.specs.Views.{Views, Place}
-use Rattle.lf_embed.specs.Cycle.{arriving_next, arriving_part, descend, embed_viewed, emitted, entry_next, key_next, keys_part, list_output, matched, perhaps, property_next, property_values, reverses_part, view_property}
+use Rattle.lf_embed.specs.Cycle.{arriving_next, arriving_part, descend, embed_viewed, emitted, entry_next, key_next, keys_part, list_output, perhaps, property_next, reverses_part, view_property}
 use Rattle.lf_embed.specs.Made.{literal_output, with_made}
 
 -- a node is embedded by its own view

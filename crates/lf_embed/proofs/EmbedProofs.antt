@@ -1,5 +1,5 @@
 -- What each function of embedding gives at its ends: nodes.
-use Rattle.std.proofs.Common.{◌≡◌, ◌≢◌, ◌⊎◌, inl, inr, ℕ, zero, suc, ◌-◌, Bool, true, false, not, ◌&&◌, List, [], ◌∷◌, map, filter, Option, Some, None, option_map, is_some, Ok, Err, IfSome, refl, sym, ap, subst, ◌∙◌}
+use Rattle.std.proofs.Common.{◌≡◌, ◌≢◌, inl, inr, ℕ, ◌-◌, Bool, true, false, not, ◌&&◌, List, [], ◌∷◌, Option, Some, None, option_map, Err, IfSome, refl, sym, ap, subst, ◌∙◌}
 use Rattle.std.specs.List.{list_any}
 use Rattle.lf_rdf.specs.Equality.{term_eq}
 use Rattle.lf_rdf.specs.declared.term.Term.{Term}
@@ -7,14 +7,13 @@ use Rattle.lf_rdf.specs.declared.quad.Quad.{Quad}
 use Rattle.lf_rdf.specs.declared.question.GraphRef.{GraphRef}
 use Rattle.lf_rdf.specs.declared.question.GraphRef.TheVariants as graph
 use Rattle.lf_rdf.specs.declared.question.Question.{Question}
-use Rattle.lf_model.specs.declared.document.Limit.{Limit}
 use Rattle.lf_model.specs.declared.document.Limit.TheVariants.{Depth, TreeItems}
 use Rattle.lf_model.specs.declared.value.NodeView.{NodeView}
-use Rattle.lf_model.specs.TreeData.{TreeNode, TreeNodes, TreeEntries, tree, nodes_of, properties_of, reverses_of}
+use Rattle.lf_model.specs.TreeData.{TreeNode}
 use Rattle.lf_oracle.specs.Asking.{Learns}
 use Rattle.lf_oracle.specs.Nearby.{IsMember, IsNamed, IsNearMembers, IsNearOne, IsOfNode}
 use Rattle.lf_oracle.specs.NodeViews.{view_data}
-use Rattle.lf_oracle.proofs.Learning.{learns_map, learns_then}
+use Rattle.lf_oracle.proofs.Learning.{learns_then}
 use Rattle.lf_match.specs.NearNodes.{IsNearOneFor, IsOfView}
 use Rattle.lf_match.specs.Viewed.{matches_viewed}
 use Rattle.lf_match.proofs.MatchProofs.{no_view, seen_matches}
@@ -22,23 +21,23 @@ use Rattle.lf_match.proofs.NearTerms.{AreAmong, none_among, themselves}
 use Rattle.def_nested.specs.Nested.{Nested, flags_of, within_of}
 use Rattle.def_datasets.specs.Near.{Near, itself}
 use Rattle.def_datasets.specs.Questions.{named}
-use Rattle.def_datasets.specs.Views.{View, ViewProperty, keys, view_of}
+use Rattle.def_datasets.specs.Views.{View, keys, view_of}
 use Rattle.def_framing.specs.Embedding.{contents, embed, refer}
 use Rattle.def_framing.specs.Matching.{matches}
 use Rattle.def_framing.specs.Nearness.{reversed_in}
-use Rattle.def_framing.specs.Parts.{Embedding, default_part, embed_all, entered_keys, graph_part, reverse_part, value_part}
+use Rattle.def_framing.specs.Parts.{embed_all, entered_keys, graph_part}
 use Rattle.def_framing.specs.Results.{Result, State, choose, entered, gives, item, over, then}
-use Rattle.def_framing.specs.Steps.{as_reference, enters, graph_frame, seen, types_by}
+use Rattle.def_framing.specs.Steps.{as_reference, graph_frame, seen}
 use Rattle.def_framing.specs.Views.{Place, Views, of_dataset}
 use Rattle.lf_embed.specs.declared.walk.Stop.{Stop}
 use Rattle.lf_embed.specs.declared.walk.Stop.TheVariants as stop
 use Rattle.lf_embed.specs.Choices.{enters_by}
 use Rattle.lf_embed.specs.Cycle.{descend, embed_viewed, keys_part, matched, named_part, perhaps}
-use Rattle.lf_embed.specs.Embeds.{Embeds, IsNearBy, IsOfKeys, IsOfNodeOrView, IsOfProps}
+use Rattle.lf_embed.specs.Embeds.{Embeds, IsNearBy, IsOfKeys, IsOfNodeOrView}
 use Rattle.lf_embed.specs.Runs.{run_of}
 use Rattle.lf_embed.proofs.CycleProofs.{descends, embed_is_viewed, keys_embedded}
-use Rattle.lf_embed.proofs.Gains.{after_one, known_after, passed, quiet, settled, silent, stopped, stopped_after, taken_after, taken_on}
-use Rattle.lf_embed.proofs.NearParts.{graph_among, same_by, same_from, seen_is_near, view_is_of, view_of_props, wide_by, wide_from}
+use Rattle.lf_embed.proofs.Gains.{after_one, passed, quiet, settled, silent, stopped, stopped_after, taken_after, taken_on}
+use Rattle.lf_embed.proofs.NearParts.{graph_among, same_by, same_from, seen_is_near, view_is_of, wide_by, wide_from}
 use Rattle.lf_embed.proofs.NearSteps.{key_is_near, member_is_near}
 
 -- what asks nothing but the view of a node
@@ -384,3 +383,9 @@ match_over {dataset = dataset} f h room g id frame free path state one_state two
     (λ other limit k same.
     ap (λ r. then r (λ one_made later_state. gives (Some one_made) later_state)) same
     ∙ match_is other room g id frame free path state (view_data view) fits passes k)
+
+-- one step more on the path
+pub steps_in :
+    (g : GraphRef) (id : Term) (inner mid path : List Place) → inner ≡ record { graph = g; id = id } ∷ mid → mid ≡ path →
+    inner ≡ record { graph = g; id = id } ∷ path
+steps_in g id inner mid path joins stays = subst (λ p. inner ≡ record { graph = g; id = id } ∷ p) stays joins

@@ -1,5 +1,5 @@
 -- What calls of embedding give, one after another and in loops.
-use Rattle.std.proofs.Common.{◌≡◌, ℕ, ◌+◌, ◌<◌, zero, suc, List, [], ◌∷◌, ◌++◌, take, drop, length, get_or, Option, Some, None, Result as Returned, Ok, Err, IfSome, refl, sym, ap, subst, ◌∙◌, arith, add-one, drop-cons}
+use Rattle.std.proofs.Common.{◌≡◌, ℕ, ◌+◌, ◌<◌, List, [], ◌∷◌, ◌++◌, take, drop, length, get_or, Option, Some, None, Err, IfSome, refl, sym, ap, subst, ◌∙◌, add-one, drop-cons}
 use Rattle.std.proofs.lemmas.List.{take-append-drop, take_more}
 use Rattle.std.proofs.Math.Seq.{take-length}
 use Rattle.lf_rdf.specs.declared.term.Term.{Term}
@@ -229,3 +229,21 @@ pub known_after :
     Embeds dataset before after first last many Those whole made
 known_after whole None known run one wide same = record { gained = tt }
 known_after whole (Some r) known run one wide same = settled whole r one wide (λ other e. run ∙ same other e)
+
+-- what was made is known by another name
+pub as_made :
+    {A : Type 0} {dataset : List Quad} {before after : Option (List Question)} {first last : ℕ} {reversed : List (List ℕ)}
+    {Is : Term → Type 0} {comes : Views → Result A} (made known : A) (state : State) → made ≡ known →
+    Embeds dataset before after first last reversed Is comes (Some (gives known state)) →
+    Embeds dataset before after first last reversed Is comes (Some (gives made state))
+as_made {dataset = dataset} {before = before} {after = after} {first = first} {last = last} {reversed = reversed} {Is = Is} {comes = comes} made known state same one =
+    subst (λ m. Embeds dataset before after first last reversed Is comes (Some (gives m state))) (sym same) one
+
+-- the stop is a limit
+pub at_limit :
+    {A T : Type 0} {dataset : List Quad} {before after : Option (List Question)} {first last : ℕ} {reversed : List (List ℕ)}
+    {Is : Term → Type 0} {comes : Views → Result A} (f : T → A) (e : Stop) (limit : Limit) (state : State) → e ≡ stop.Over limit →
+    Embeds dataset before after first last reversed Is comes (run_of f (Err e) state) →
+    Embeds dataset before after first last reversed Is comes (Some (over limit))
+at_limit {dataset = dataset} {before = before} {after = after} {first = first} {last = last} {reversed = reversed} {Is = Is} {comes = comes} f e limit state is one =
+    subst (λ s. Embeds dataset before after first last reversed Is comes (run_of f (Err s) state)) is one

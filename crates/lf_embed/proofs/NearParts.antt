@@ -1,5 +1,5 @@
 -- Nearness for the parts of a frame that embedding hands on.
-use Rattle.std.proofs.Common.{◌≡◌, ◌⊎◌, inl, inr, ℕ, ◌<◌, zero, suc, Bool, true, false, cond, List, [], ◌∷◌, ◌++◌, map, length, get_or, Option, Some, None, unwrap_or, refl, sym, ap, subst, ◌∙◌, arith}
+use Rattle.std.proofs.Common.{◌≡◌, inl, inr, ℕ, ◌<◌, zero, suc, Bool, true, false, cond, List, [], ◌∷◌, ◌++◌, map, length, get_or, Option, Some, None, unwrap_or, refl, sym, subst, ◌∙◌, arith}
 use Rattle.std.specs.Bool.{IsTrue}
 use Rattle.std.specs.List.{list_any}
 use Rattle.std.proofs.lemmas.Bool.{or_left, or_right}
@@ -11,15 +11,15 @@ use Rattle.lf_rdf.specs.Equality.{term_eq, text_eq}
 use Rattle.lf_model.specs.declared.frame.FrameReverse.{FrameReverse}
 use Rattle.lf_model.specs.declared.value.Prop.{Prop}
 use Rattle.lf_model.specs.ValueBridge.{value_data}
-use Rattle.lf_model.specs.ValueData.{ListValue, list, value, values_of}
-use Rattle.lf_oracle.specs.Nearby.{IsOfNode, NamesGraph}
-use Rattle.lf_match.specs.NearNodes.{AnyRefers, IsNearOneBy, IsOfValue, IsOfValues, IsOfView, PropertiesRefer}
+use Rattle.lf_model.specs.ValueData.{values_of}
+use Rattle.lf_oracle.specs.Nearby.{IsOfNode}
+use Rattle.lf_match.specs.NearNodes.{AnyRefers, IsNearOneBy, IsOfValues, IsOfView, PropertiesRefer}
 use Rattle.lf_match.proofs.NearTerms.{AreAmong, among_left, among_right, among_then, none_among, themselves, wide_one}
 use Rattle.lf_match.proofs.ViewRefs.{view_refs_near}
 use Rattle.def_datasets.proofs.OrderLaws.{term_decides}
 use Rattle.def_datasets.specs.Near.{Near, itself}
-use Rattle.def_datasets.specs.Views.{View, ViewProperty, view_of}
-use Rattle.def_nested.specs.Nested.{Flags, Nested, Props, Reverses, Within, Kind, match_none, frame_map, no_props, prop, no_graph, in_graph, wild, node_frame, value_pattern, list_pattern, list_pattern_of, flags_of, plain, props_list, props_of, reverse_props_of, wildcard, within_of}
+use Rattle.def_datasets.specs.Views.{View, view_of}
+use Rattle.def_nested.specs.Nested.{Flags, Nested, Props, Reverses, Within, Kind, match_none, frame_map, no_props, prop, no_graph, in_graph, wild, node_frame, value_pattern, list_pattern, list_pattern_of, props_list, reverse_props_of, within_of}
 use Rattle.def_nested.specs.Unfolding.{Numbered, build_reverses}
 use Rattle.def_framing.specs.Nearness.{in_kind, in_props, in_reverses, in_within, reversed_in}
 use Rattle.def_framing.specs.Steps.{graph_frame, inherited, item_frame, seen, sub_at, sub_for}

@@ -1,11 +1,10 @@
 -- The outcome of a term from its view and its tree.
-use Rattle.std.proofs.Common.{◌≡◌, inl, inr, ℕ, Bool, true, false, List, [], Option, Some, None, option_map, Result as Returned, Ok, Err, IfOk, refl, sym, ap, subst, ◌∙◌}
+use Rattle.std.proofs.Common.{◌≡◌, inl, inr, ℕ, Bool, true, false, List, [], Option, Some, None, option_map, Result as Returned, Ok, Err, IfOk, sym, ap, subst, ◌∙◌}
 use Rattle.lf_base.specs.declared.memory.Memory.{Memory}
 use Rattle.lf_rdf.specs.declared.term.Term.{Term}
 use Rattle.lf_rdf.specs.declared.quad.Quad.{Quad}
 use Rattle.lf_rdf.specs.declared.question.GraphRef.{GraphRef}
 use Rattle.lf_rdf.specs.declared.question.Question.{Question}
-use Rattle.lf_model.specs.declared.document.Limit.{Limit}
 use Rattle.lf_model.specs.declared.document.Outcome as program
 use Rattle.lf_model.specs.declared.value.NodeView.{NodeView}
 use Rattle.lf_model.specs.TreeData.{TreeNode}
@@ -17,13 +16,12 @@ use Rattle.lf_match.specs.NearNodes.{IsNearOneFor, IsOfView}
 use Rattle.lf_match.specs.Viewed.{matches_viewed}
 use Rattle.lf_match.proofs.NearTerms.{themselves}
 use Rattle.def_nested.specs.Nested.{Nested}
-use Rattle.def_datasets.specs.Near.{Near, NearQuestion}
+use Rattle.def_datasets.specs.Near.{NearQuestion}
 use Rattle.def_datasets.specs.Views.{View, view_of}
-use Rattle.def_framing.specs.Matching.{matches}
 use Rattle.def_framing.specs.Nearness.{reversed_in}
-use Rattle.def_framing.specs.Outcome.{Outcome, depth_limit, framed_graph, matched, no_match, not_key, outcome_in, outcome_of_key, outcome_of_result, outcome_of_view, past}
+use Rattle.def_framing.specs.Outcome.{Outcome, depth_limit, framed_graph, no_match, not_key, outcome_in, outcome_of_key, outcome_of_result, outcome_of_view}
 use Rattle.def_framing.specs.OutcomeBridge.{outcome_data}
-use Rattle.def_framing.specs.Results.{Result, State, at_first, gives, over}
+use Rattle.def_framing.specs.Results.{Result, State, at_first}
 use Rattle.def_framing.specs.Steps.{seen}
 use Rattle.def_framing.specs.Views.{Place, of_dataset}
 use Rattle.lf_embed.specs.Cycle.{embed_viewed}

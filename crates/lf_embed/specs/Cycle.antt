@@ -1,5 +1,5 @@
 -- What the functions of embedding give, where the definitions have no name for it (JSON-LD 1.1 Framing, section 4.2.3).
-use Rattle.std.specs.Prelude.{List, [], ◌∷◌, ℕ, zero, suc, Bool, true, false, not, ◌&&◌, Option, Some, None, map}
+use Rattle.std.specs.Prelude.{List, [], ◌∷◌, ℕ, zero, suc, Bool, true, false, not, ◌&&◌, Option, Some, None}
 use Rattle.lf_rdf.specs.declared.term.Term.{Term}
 use Rattle.lf_rdf.specs.declared.question.GraphRef.{GraphRef}
 use Rattle.lf_rdf.specs.declared.question.GraphRef.TheVariants.{Named}

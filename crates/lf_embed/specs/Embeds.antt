@@ -1,5 +1,5 @@
 -- What a call of embedding gave, as it is learnt by asking, and the terms that its questions are near (JSON-LD 1.1 Framing, section 4.2.3).
-use Rattle.std.specs.Prelude.{◌≡◌, ◌⊎◌, List, ℕ, Bool, ◌&&◌, not, Option, IfSome, IsTrue}
+use Rattle.std.specs.Prelude.{◌⊎◌, List, ℕ, Bool, ◌&&◌, not, Option, IfSome, IsTrue}
 use Rattle.std.specs.List.{list_all, list_any}
 use Rattle.lf_rdf.specs.declared.term.Term.{Term}
 use Rattle.lf_rdf.specs.declared.quad.Quad.{Quad}

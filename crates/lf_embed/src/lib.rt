@@ -1,13 +1,15 @@
-//! The plain document of a dataset, its nodes with their types and values, and the parts of embedding.
+//! Embedding: the outcome of a term by a frame, and the plain document of a dataset.
 #![tactic(auto)]
 
 mod choices;
 mod defaults;
 mod document;
+mod embed;
 mod entries;
 mod facts;
 mod fitting;
 mod form;
+mod outcomes;
 mod parts;
 mod place;
 mod runs;
@@ -27,6 +29,7 @@ pub use form::{
     Form, WildFlags, flags_for, graph_form, item_form, numbered, omits, outputs, plain_flags,
     stated_form, sub_form,
 };
+pub use outcomes::{PATH_LIMIT, tree};
 pub use parts::{add_property, add_reverse, assemble, node_value, push_entry, push_tree};
 pub use place::{Place, same_graph};
 pub use walk::{ITEM_LIMIT, Stop, Walk};

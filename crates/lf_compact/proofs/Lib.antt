@@ -2,3 +2,14 @@ pub mod Arrays
 pub mod Entries
 pub mod Grouped
 pub mod Held
+pub mod Added
+pub mod Put
+pub mod Steps
+pub mod Drained
+pub mod Elements
+pub mod NodeParts
+pub mod Traversed
+pub mod Maps
+pub mod Sole
+pub mod Languages
+pub mod Loops

@@ -4,3 +4,7 @@ pub mod Arrays
 pub mod Groups
 pub mod Members
 pub mod Answers
+pub mod Pieces
+pub mod Turned
+pub mod Nodes
+pub mod Under

@@ -9,6 +9,7 @@ ghost use Rattle.lf_compact.specs.Answers.{raised};
 use lf_base::Memory;
 use lf_model::LdError;
 use lf_select::SelectErr;
+use std::alloc::AllocFailed;
 use thiserror::Error;
 
 /// Why a tree isn't compacted (JSON-LD 1.1 Processing Algorithms and API, section 5.1).
@@ -25,6 +26,14 @@ impl From<Memory> for CompactErr {
     ghost from_gives = { λ _ r. r ≡ e.Memory };
 
     fn from(_none: Memory) -> CompactErr {
+        CompactErr::Memory
+    }
+}
+
+impl<T: Drop> From<AllocFailed<T>> for CompactErr {
+    ghost from_gives = { λ _ r. r ≡ e.Memory };
+
+    fn from(_refused: AllocFailed<T>) -> CompactErr {
         CompactErr::Memory
     }
 }

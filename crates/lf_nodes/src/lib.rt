@@ -9,6 +9,8 @@ mod members;
 mod merged;
 mod nodes_over;
 mod pointing;
+#[cfg(test)]
+mod tests;
 mod values;
 mod view;
 

@@ -12,6 +12,8 @@ mod parts;
 mod picks;
 mod pieces;
 mod property;
+#[cfg(test)]
+mod tests;
 mod trees;
 mod turned;
 mod value;

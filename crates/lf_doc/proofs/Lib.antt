@@ -1,0 +1,10 @@
+pub mod Gathered
+pub mod Parts
+pub mod Rests
+pub mod Room
+pub mod Sheets
+pub mod Shown
+pub mod Tops
+pub mod Trees
+pub mod Versions
+pub mod Written

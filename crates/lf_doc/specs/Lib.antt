@@ -1,0 +1,4 @@
+pub mod Entries
+pub mod Gathering
+pub mod Room
+pub mod Sheets

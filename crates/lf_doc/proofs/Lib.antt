@@ -1,5 +1,6 @@
 pub mod Gathered
 pub mod Parts
+pub mod Printed
 pub mod Rests
 pub mod Room
 pub mod Sheets

@@ -1,18 +1,16 @@
-//! The parts of a document of a frame (JSON-LD 1.1 Framing, section 4): its limits, its labels, its context, its map and its text.
+//! The document of a frame and of what it gives for the terms of a dataset (JSON-LD 1.1 Framing, section 4).
 #![tactic(auto)]
 
+mod assembly;
 mod context;
 mod items;
 mod labels;
 mod limits;
+mod maps;
 mod printing;
 mod sheet;
+#[cfg(test)]
+mod tests;
 mod top;
 
-pub use context::shown_context;
-pub use items::tree_room;
-pub use labels::labels_of;
-pub use limits::first_limit;
-pub use printing::write;
-pub use sheet::Sheet;
-pub use top::top_map;
+pub use assembly::assemble;

@@ -1,0 +1,4 @@
+pub mod FrameTexts
+pub mod Answers
+pub mod Laws
+pub mod Worked

@@ -55,6 +55,8 @@ pub use Rattle.def_documents.specs.Pruning
 pub use Rattle.def_documents.specs.Document
 pub use Rattle.def_documents.specs.FrameDocument
 pub use Rattle.def_scratch.specs.Scratch
+-- what frames' texts come to
+pub use Rattle.lf_frames.specs.FrameTexts
 -- histories and desks
 pub use Rattle.def_histories.specs.History
 pub use Rattle.def_histories.specs.Replay

@@ -9,12 +9,12 @@ pub use def_histories::{Live, Operation, OperationList};
 pub use def_patch_texts::LineKind;
 pub use def_selection::{ContainerList, Pick, PickKind};
 pub use lf_base::{ListOf, Memory, Same, Steps, Text, TextList, TryCopy};
-pub use lf_desk::Desk;
+pub use lf_desk::{CommitErr, Desk, RegisterErr};
 pub use lf_model::{
-    CommitErr, Container, Counted, DefaultList, DefaultValue, Doc, Embed, Frame, FrameKind,
+    Container, Counted, DefaultList, DefaultValue, Doc, Embed, Frame, FrameKind,
     FrameNode, FrameNodeList, FrameProp, FramePropList, FrameReverse, FrameReverseList, FramedNow,
     IdTest, Json, JsonList, JsonMap, LdError, Limit, Look, NodeView, Notice, NoticeList, Outcome,
-    OutcomeList, PartTest, Prop, PropList, RegisterErr, Scalar, ScalarList, TermDef, TermDefList,
+    OutcomeList, PartTest, Prop, PropList, Scalar, ScalarList, TermDef, TermDefList,
     TermTable, Tree, TreeList, TreeProp, TreePropList, TreeReverse, TreeReverseList, TreeValue,
     TreeValueList, TypeTest, Value, ValueList, ValuePattern,
 };

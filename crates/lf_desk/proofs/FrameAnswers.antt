@@ -1,17 +1,17 @@
--- A registration is answered as new exactly where it is allowed and built so far, and as no operation where its text is live.
+-- A registration is answered as new exactly where it is allowed, and as no operation where its text is live.
 use Rattle.std.proofs.Common.{◌≡◌, refl, sym, ◌∙◌, ap, ℕ, ◌+◌, ◌≤◌, List, length, nat_lt, Bool, true, false, not, cond, Some, Result, Ok, Err}
 use Rattle.std.proofs.lemmas.Bool.{false≢true, not-true, not-false, not_from_true, not_from_false, false_from_ne_true, ltb-false, ltb-true, lt-ltb, le-ltb}
 use Rattle.std.specs.Cmp.Lexicographic.{bytes_decides}
 use Rattle.def_datasets.proofs.OrderLaws.{option_decides}
 use Rattle.lf_rdf.specs.Equality.{text_eq}
-use Rattle.lf_model.specs.declared.desk.RegisterErr.{RegisterErr}
+use Rattle.lf_frames.specs.FrameTexts.{FrameText, not_json, fractional, refused, accepted as is_meant, frame_text, is_accepted, is_frame}
+use Rattle.lf_desk.specs.declared.refusals.RegisterErr.{RegisterErr}
 use Rattle.def_histories.specs.declared.operation.Operation.{Operation}
 use Rattle.def_histories.specs.History.{registrations, text_bytes}
 use Rattle.def_histories.specs.Legal.{IsRegistration, is_frame_name, live_text, most_frame_bytes, most_frames, most_registrations, most_text_bytes}
-use Rattle.lf_desk.specs.Accepted.{is_first_frame, most_first_bytes, is_not_built}
-use Rattle.lf_desk.specs.RegisterAnswer.{register_answer, is_live_text, others, limits_answer}
+use Rattle.lf_desk.specs.RegisterAnswer.{register_answer, is_live_text, others, limits_answer, text_answer}
 use Rattle.lf_desk.specs.AnswerLaws.{AcceptsAllowedFrames, SameTextAgain}
-use Rattle.lf_desk.proofs.Passing.{past, passed, neither}
+use Rattle.lf_desk.proofs.Passing.{past, passed}
 
 is_fresh : Result Bool RegisterErr → Bool
 is_fresh (Ok fresh) = fresh
@@ -22,6 +22,10 @@ past_same : (same : Bool) (rest : Result Bool RegisterErr) → cond same (Ok fal
 unfolding is_fresh
 past_same true rest e = absurd (false≢true (ap is_fresh e))
 past_same false rest e = (refl, e)
+
+is_refused : Result Bool RegisterErr → Bool
+is_refused (Ok fresh) = false
+is_refused (Err error) = true
 
 abbrev as_new : Result Bool RegisterErr
 as_new = Ok true
@@ -45,56 +49,59 @@ live_decides history name text same = (option_decides text_eq bytes_decides (liv
 live_told : (history : List Operation) (name text : List ℕ) → live_text history name ≡ Some text → is_live_text history name text ≡ true
 live_told history name text same = (option_decides text_eq bytes_decides (live_text history name) (Some text)).1 same
 
--- what an answer as new tells
-pub record AcceptedFrame (history : List Operation) (name text : List ℕ) : Type 0 where
-  pub built : is_not_built history text ≡ false
-  pub may : IsRegistration is_first_frame history name text
+-- past what is wrong with a text
+past_text : (told : FrameText) (limits : Result Bool RegisterErr) (fresh : Bool) → text_answer told limits ≡ Ok fresh
+    → (is_accepted told ≡ true) × (limits ≡ Ok fresh)
+unfolding is_fresh is_refused
+past_text not_json limits fresh e = absurd (false≢true (sym (ap is_refused e)))
+past_text (fractional path) limits fresh e = absurd (false≢true (sym (ap is_refused e)))
+past_text (refused error) limits fresh e = absurd (false≢true (sym (ap is_refused e)))
+past_text (is_meant meaning) limits fresh e = (refl, e)
 
-pub accepted : (history : List Operation) (name text : List ℕ) → register_answer history name text ≡ Ok true → AcceptedFrame history name text
+passed_text : (told : FrameText) (limits : Result Bool RegisterErr) → is_accepted told ≡ true → text_answer told limits ≡ limits
+passed_text not_json limits e = absurd (false≢true e)
+passed_text (fractional path) limits e = absurd (false≢true e)
+passed_text (refused error) limits e = absurd (false≢true e)
+passed_text (is_meant meaning) limits e = refl
+
+-- an answer as new tells that the frame may be registered
+pub accepted : (history : List Operation) (name text : List ℕ) → register_answer history name text ≡ Ok true
+    → IsRegistration is_frame history name text
 accepted history name text fresh =
     let one = past (not (is_frame_name name)) _ true _ fresh in
     let two = past (nat_lt most_frame_bytes (length text)) _ true _ one.1 in
     let three = past_same (is_live_text history name text) _ two.1 in
-    let four = past (is_not_built history text) _ true (limits_answer history name text) three.1 in
+    let four = past_text (frame_text text) (limits_answer history name text) true three.1 in
     let five = past (not (nat_lt (others history name) most_frames)) _ true _ four.1 in
     let six = past (not (nat_lt (registrations history) most_registrations)) _ true _ five.1 in
     let seven = past (nat_lt most_text_bytes (text_bytes history + length text)) _ true _ six.1 in
     record {
-      built = four.0;
-      may =
-          record {
-            named = not-false (is_frame_name name) one.0;
-            short = ltb-false most_frame_bytes (length text) two.0;
-            framed = (neither (is_first_frame text) (nat_lt most_first_bytes (text_bytes history + length text)) four.0).0;
-            other = λ same. false≢true (sym three.0 ∙ live_told history name text same);
-            placed = ltb-true (others history name) most_frames (not-false (nat_lt (others history name) most_frames) five.0);
-            counted = ltb-true (registrations history) most_registrations (not-false (nat_lt (registrations history) most_registrations) six.0);
-            sized = ltb-false most_text_bytes (text_bytes history + length text) seven.0;
-          };
+      named = not-false (is_frame_name name) one.0;
+      short = ltb-false most_frame_bytes (length text) two.0;
+      framed = four.0;
+      other = λ same. false≢true (sym three.0 ∙ live_told history name text same);
+      placed = ltb-true (others history name) most_frames (not-false (nat_lt (others history name) most_frames) five.0);
+      counted = ltb-true (registrations history) most_registrations (not-false (nat_lt (registrations history) most_registrations) six.0);
+      sized = ltb-false most_text_bytes (text_bytes history + length text) seven.0;
     }
 
--- the texts stay few
-pub few_texts : (history : List Operation) (text : List ℕ) → is_not_built history text ≡ false → text_bytes history + length text ≤ most_first_bytes
-few_texts history text built =
-    ltb-false most_first_bytes (text_bytes history + length text)
-    (neither (is_first_frame text) (nat_lt most_first_bytes (text_bytes history + length text)) built).1
+allowed : (history : List Operation) (name text : List ℕ) → IsRegistration is_frame history name text
+    → register_answer history name text ≡ Ok true
+allowed history name text may =
+    passed (not (is_frame_name name)) _ _ (not_from_true (is_frame_name name) may.named)
+    ∙ (passed (nat_lt most_frame_bytes (length text)) _ _ (le-ltb most_frame_bytes (length text) may.short)
+    ∙ (passed (is_live_text history name text) _ _
+    (false_from_ne_true (is_live_text history name text) (λ same. may.other (live_decides history name text same)))
+    ∙ (passed_text (frame_text text) (limits_answer history name text) may.framed
+    ∙ (passed (not (nat_lt (others history name) most_frames)) _ _
+    (not_from_true (nat_lt (others history name) most_frames) (lt-ltb (others history name) most_frames may.placed))
+    ∙ (passed (not (nat_lt (registrations history) most_registrations)) _ _
+    (not_from_true (nat_lt (registrations history) most_registrations) (lt-ltb (registrations history) most_registrations may.counted))
+    ∙ passed (nat_lt most_text_bytes (text_bytes history + length text)) _ _
+    (le-ltb most_text_bytes (text_bytes history + length text) may.sized))))))
 
 pub accepts_allowed_frames : AcceptsAllowedFrames
-accepts_allowed_frames history seat name text = (
-  λ e. let told = accepted history name text e in (not_from_false (is_not_built history text) told.built, told.may),
-  λ both.
-      passed (not (is_frame_name name)) _ _ (not_from_true (is_frame_name name) both.1.named)
-      ∙ (passed (nat_lt most_frame_bytes (length text)) _ _ (le-ltb most_frame_bytes (length text) both.1.short)
-      ∙ (passed (is_live_text history name text) _ _
-      (false_from_ne_true (is_live_text history name text) (λ same. both.1.other (live_decides history name text same)))
-      ∙ (passed (is_not_built history text) _ _ (not-true (is_not_built history text) both.0)
-      ∙ (passed (not (nat_lt (others history name) most_frames)) _ _
-      (not_from_true (nat_lt (others history name) most_frames) (lt-ltb (others history name) most_frames both.1.placed))
-      ∙ (passed (not (nat_lt (registrations history) most_registrations)) _ _
-      (not_from_true (nat_lt (registrations history) most_registrations) (lt-ltb (registrations history) most_registrations both.1.counted))
-      ∙ passed (nat_lt most_text_bytes (text_bytes history + length text)) _ _
-      (le-ltb most_text_bytes (text_bytes history + length text) both.1.sized)))))),
-)
+accepts_allowed_frames history seat name text = (accepted history name text, allowed history name text)
 
 pub same_text_again : SameTextAgain
 same_text_again history name text = (
@@ -105,7 +112,7 @@ same_text_again history name text = (
         ltb-false most_frame_bytes (length text) two.0,
         live_decides history name text
             (is_same (is_live_text history name text) _
-            (λ rest. limits_new history name text (past (is_not_built history text) _ false (limits_answer history name text) rest).1) two.1),
+            (λ rest. limits_new history name text (past_text (frame_text text) (limits_answer history name text) false rest).1) two.1),
       ),
   λ all.
       passed (not (is_frame_name name)) _ _ (not_from_true (is_frame_name name) all.0)
@@ -113,5 +120,5 @@ same_text_again history name text = (
 )
   where
     again : live_text history name ≡ Some text
-        → cond (is_live_text history name text) (Ok false) (cond (is_not_built history text) (Err RegisterErr.NotBuilt) (limits_answer history name text)) ≡ Ok false
+        → cond (is_live_text history name text) (Ok false) (text_answer (frame_text text) (limits_answer history name text)) ≡ Ok false
     again live = rw (live_told history name text live) refl

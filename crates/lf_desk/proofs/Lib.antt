@@ -1,4 +1,3 @@
 pub mod Passing
 pub mod PatchAnswers
 pub mod FrameAnswers
-pub mod FirstFrames

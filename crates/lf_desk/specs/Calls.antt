@@ -5,7 +5,7 @@ use Rattle.def_histories.specs.declared.operation.Operation.{Operation}
 use Rattle.def_histories.specs.declared.operation.Operation.TheVariants.{Retire}
 use Rattle.def_histories.specs.History.{live}
 use Rattle.def_histories.specs.Legal.{IsLegal}
-use Rattle.lf_desk.specs.Accepted.{is_first_frame}
+use Rattle.lf_frames.specs.FrameTexts.{is_frame}
 use Rattle.lf_desk.specs.Seats.{IsExtended}
 
 -- The histories before and after a call, what it made, and what its answer says of the history that it saw.
@@ -13,7 +13,7 @@ pub record IsCall (alone : Bool) (seat : ℕ) (before after made : List Operatio
   pub seen : List Operation
   pub came : IsExtended alone seat before seen
   pub entered : after ≡ seen ++ made
-  pub legal : IsLegal is_first_frame after
+  pub legal : IsLegal is_frame after
   pub says : Says seen
 
 -- a retirement answers whether the name was live, unless no memory was found

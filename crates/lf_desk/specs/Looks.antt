@@ -9,7 +9,7 @@ use Rattle.def_histories.specs.declared.live.Live.{Live}
 use Rattle.def_histories.specs.declared.operation.Operation.{Operation}
 use Rattle.def_histories.specs.History.{commits, live}
 use Rattle.def_histories.specs.Replay.{dataset_at, newest_dataset}
-use Rattle.lf_desk.specs.Document.{document}
+use Rattle.lf_frames.specs.FrameTexts.{document}
 
 -- a version is published that isn't below the needed one
 abbrev pub is_new_enough : ℕ → Option ℕ → Bool

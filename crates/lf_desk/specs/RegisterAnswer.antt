@@ -2,13 +2,13 @@
 use Rattle.std.specs.Prelude.{◌≡◌, List, [], ◌∷◌, ℕ, suc, ◌+◌, nat_lt, length, Bool, true, false, not, if◌then◌else◌, Some, Result, Ok, Err}
 use Rattle.lf_rdf.specs.Equality.{text_eq, option_eq}
 use Rattle.lf_model.specs.declared.desk.Counted.TheVariants.{Registrations, Bytes}
-use Rattle.lf_model.specs.declared.desk.RegisterErr.{RegisterErr}
-use Rattle.lf_model.specs.declared.desk.RegisterErr.TheVariants as r
+use Rattle.lf_frames.specs.FrameTexts.{FrameText, not_json, fractional, refused, accepted, frame_text}
+use Rattle.lf_desk.specs.declared.refusals.RegisterErr.{RegisterErr}
+use Rattle.lf_desk.specs.declared.refusals.RegisterErr.TheVariants as r
 use Rattle.def_histories.specs.declared.operation.Operation.{Operation}
 use Rattle.def_histories.specs.declared.operation.Operation.TheVariants.{Register}
 use Rattle.def_histories.specs.History.{registrations, text_bytes, live_frames, without}
 use Rattle.def_histories.specs.Legal.{most_frame_bytes, most_frames, most_registrations, most_text_bytes, is_frame_name, live_text}
-use Rattle.lf_desk.specs.Accepted.{is_not_built}
 
 -- whether the text is live under the name
 abbrev pub is_live_text : List Operation → List ℕ → List ℕ → Bool
@@ -28,14 +28,20 @@ limits_answer history name text =
     then Err (r.HistoryFull Bytes (text_bytes history) most_text_bytes)
     else Ok true
 
+-- a text that is no frame is refused by what is wrong with it
+abbrev pub text_answer : FrameText → Result Bool RegisterErr → Result Bool RegisterErr
+text_answer not_json limits = Err r.NotJson
+text_answer (fractional path) limits = Err (r.Fractional path)
+text_answer (refused error) limits = Err (r.Ld error)
+text_answer (accepted meaning) limits = limits
+
 -- a registration is new, or the text is live already, or it is refused
 abbrev pub register_answer : List Operation → List ℕ → List ℕ → Result Bool RegisterErr
 register_answer history name text =
     if not (is_frame_name name) then Err r.BadName
     else if nat_lt most_frame_bytes (length text) then Err (r.FrameTooLong (length text))
     else if is_live_text history name text then Ok false
-    else if is_not_built history text then Err r.NotBuilt
-    else limits_answer history name text
+    else text_answer (frame_text text) (limits_answer history name text)
 
 -- a call answered so, unless no memory was found
 abbrev pub Fails : RegisterErr → Result Bool RegisterErr → Type 0
@@ -45,7 +51,6 @@ Fails (r.FrameTooLong size) answer = answer ≡ Err (r.FrameTooLong size)
 Fails r.NotJson answer = answer ≡ Err r.NotJson
 Fails (r.Fractional path) answer = answer ≡ Err (r.Fractional path)
 Fails (r.Ld error) answer = answer ≡ Err (r.Ld error)
-Fails r.NotBuilt answer = answer ≡ Err r.NotBuilt
 Fails (r.TooManyFrames have would) answer = answer ≡ Err (r.TooManyFrames have would)
 Fails (r.HistoryFull of have limit) answer = answer ≡ Err (r.HistoryFull of have limit)
 

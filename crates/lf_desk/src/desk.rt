@@ -1,15 +1,17 @@
+//! The trait by which a session reads and changes one history.
 ghost use Rattle.std.specs.Prelude.{◌≡◌, ◌≤◌, [], ℕ, Bool, List};
 ghost use Rattle.def_histories.specs.declared.operation.Operation.{Operation};
 ghost use Rattle.def_histories.specs.History.{commits};
 ghost use Rattle.def_histories.specs.Legal.{IsLegal};
-ghost use Rattle.lf_desk.specs.Accepted.{is_first_frame};
+ghost use Rattle.lf_frames.specs.FrameTexts.{is_frame};
 ghost use Rattle.lf_desk.specs.RegisterAnswer.{register_answer, Answers, registered_by};
 ghost use Rattle.lf_desk.specs.CommitAnswer.{commit_answer, CommitAnswers, committed_by};
 ghost use Rattle.lf_desk.specs.Looks.{Looks, Frames};
 ghost use Rattle.lf_desk.specs.Calls.{IsCall, Retires, retired_by};
 
+use crate::refusals::{CommitErr, RegisterErr};
 use lf_base::Memory;
-use lf_model::{CommitErr, FramedNow, Look, RegisterErr};
+use lf_model::{FramedNow, Look};
 use lf_rdf::Patch;
 use std::alloc::Global;
 
@@ -28,8 +30,7 @@ pub trait Desk {
     ghost history: { Self → List Operation };
 
     /// Commits a patch as the next version, also where it changes nothing, and gives the version's number. The refusals
-    /// in their order: `NotBuilt`, where a quad isn't of the first form or all texts together would have more than
-    /// 65,536 bytes; `HistoryFull` of commits (65,536) or of bytes (268,435,456); `TooManyQuads` (400,000).
+    /// in their order: `HistoryFull` of commits (65,536) or of bytes (268,435,456); `TooManyQuads` (400,000).
     fn commit(&mut self, alloc: Global, patch: Patch) -> Result<u64, CommitErr>
         ensures call { IsCall (alone self.old) (seat self.old) (history self.old) (history self.new)
             (committed_by (seat self.old) patch result) (λ seen. CommitAnswers result (commit_answer seen patch)) }
@@ -38,8 +39,8 @@ pub trait Desk {
 
     /// Registers a frame's text under a name. Answers false where the text is live there already, and then makes no
     /// operation. `BadName` and `FrameTooLong` (65,536 bytes) come before that answer, and the other refusals behind it,
-    /// in this order: `NotBuilt`, where the text isn't of the first form or all texts together would have more than
-    /// 65,536 bytes; `TooManyFrames` (16 others); `HistoryFull` of registrations (65,536) or of bytes (268,435,456).
+    /// in this order: `NotJson`, `Fractional` and `Ld`, where the text is no frame; `TooManyFrames` (16 others);
+    /// `HistoryFull` of registrations (65,536) or of bytes (268,435,456).
     fn register(&mut self, alloc: Global, name: &str, text: &str) -> Result<bool, RegisterErr>
         ensures call { IsCall (alone self.old) (seat self.old) (history self.old) (history self.new)
             (registered_by (seat self.old) name.now text.now result)
@@ -78,5 +79,5 @@ pub trait Desk {
         ensures same_alone { alone self.new ≡ alone self.old };
 
     /// The history is legal.
-    ghost legal: { (desk : Self) → IsLegal is_first_frame (history desk) };
+    ghost legal: { (desk : Self) → IsLegal is_frame (history desk) };
 }

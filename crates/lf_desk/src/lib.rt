@@ -4,10 +4,9 @@
 mod desk;
 mod laws;
 mod name;
+mod refusals;
 
 pub use desk::Desk;
-pub use laws::{
-    accepts_allowed_frames, accepts_allowed_patches, accepts_first_frames,
-    documents_of_first_frames, same_text_again,
-};
+pub use laws::{accepts_allowed_frames, accepts_allowed_patches, same_text_again};
 pub use name::is_frame_name;
+pub use refusals::{CommitErr, RegisterErr};

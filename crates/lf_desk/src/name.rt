@@ -1,3 +1,4 @@
+//! Names of frames.
 ghost use Rattle.std.specs.Prelude.{◌≡◌};
 ghost use Rattle.std.specs.List.{list_all};
 ghost use Rattle.def_histories.specs.Legal.{is_name_byte, is_frame_name};

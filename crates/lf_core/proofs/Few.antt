@@ -1,7 +1,6 @@
 -- Counts below the limits of a history are below the numbers that the code compares them with.
 use Rattle.std.proofs.Common.{ℕ, ◌<◌, ◌≤◌}
-use Rattle.def_histories.specs.Legal.{most_commits, most_registrations}
-use Rattle.lf_desk.specs.Accepted.{most_first_bytes}
+use Rattle.def_histories.specs.Legal.{most_commits, most_registrations, most_text_bytes}
 
 pub few_registrations : (n : ℕ) → n < most_registrations → n < 65536
 unfolding most_registrations
@@ -11,6 +10,6 @@ pub few_commits : (n : ℕ) → n < most_commits → n < 65536
 unfolding most_commits
 few_commits n low = low
 
-pub few_bytes : (n : ℕ) → n ≤ most_first_bytes → n ≤ 65536
-unfolding most_first_bytes
+pub few_bytes : (n : ℕ) → n ≤ most_text_bytes → n ≤ 268435456
+unfolding most_text_bytes
 few_bytes n low = low

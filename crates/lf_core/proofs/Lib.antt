@@ -1,9 +1,6 @@
-pub mod FirstFrames
 pub mod Named
 pub mod Steps
+pub mod PatchSteps
 pub mod Few
-pub mod UnorderedProofs
-pub mod QuadLemmas
-pub mod SmallOf
 pub mod Lone
 pub mod LegalSteps

@@ -4,11 +4,11 @@ use Rattle.std.proofs.lemmas.List.{append-nil}
 use Rattle.def_histories.specs.declared.operation.Operation.{Operation}
 use Rattle.def_histories.specs.declared.operation.Operation.TheVariants.{Retire}
 use Rattle.def_histories.specs.Legal.{IsLegal}
-use Rattle.lf_desk.specs.Accepted.{is_first_frame}
+use Rattle.lf_frames.specs.FrameTexts.{is_frame}
 use Rattle.lf_desk.specs.Calls.{IsCall, retired_by}
 
 pub lone_call : (alone : Bool) (seat : ℕ) (before after made : List Operation) (Says : List Operation → Type 0)
-    → after ≡ before ++ made → IsLegal is_first_frame after → Says before → IsCall alone seat before after made Says
+    → after ≡ before ++ made → IsLegal is_frame after → Says before → IsCall alone seat before after made Says
 lone_call alone seat before after made Says entered legal says =
     record {
       seen = before;
@@ -19,7 +19,7 @@ lone_call alone seat before after made Says entered legal says =
     }
 
 pub lone_read : (alone : Bool) (seat : ℕ) (before : List Operation) (Says : List Operation → Type 0)
-    → IsLegal is_first_frame before → Says before → IsCall alone seat before before [] Says
+    → IsLegal is_frame before → Says before → IsCall alone seat before before [] Says
 lone_read alone seat before Says legal says =
     lone_call alone seat before before [] Says (sym (append-nil before)) legal says
 

@@ -1,5 +1,5 @@
 -- The frame of a name, its place, and the frames without it.
-use Rattle.std.proofs.Common.{◌≡◌, refl, sym, ◌∙◌, ap, zero, suc, ◌<◌, ℕ, List, [], ◌∷◌, length, get_or, Bool, true, false, not, cond, Option, Some, None, is_some, is_none, unwrap_or, IsSome, ◌&&◌, nat_lt, arith}
+use Rattle.std.proofs.Common.{◌≡◌, refl, sym, ◌∙◌, ap, subst, zero, suc, ◌<◌, ℕ, List, [], ◌∷◌, ◌++◌, length, get_or, Bool, true, false, not, cond, Option, Some, None, is_some, is_none, unwrap_or, IsSome, ◌&&◌, nat_lt, arith}
 use Rattle.std.specs.List.{filter, find, list_all, remove, position, position_or_len, slice_get}
 use Rattle.std.proofs.lemmas.Bool.{false≢true, and_parts, ltb-false}
 use Rattle.std.proofs.lemmas.List.Folds.{find_at}
@@ -7,23 +7,26 @@ use Rattle.std.proofs.lemmas.Option.{slice_get_past}
 use Rattle.lf_rdf.specs.Equality.{text_eq}
 use Rattle.def_histories.specs.declared.live.Live.{Live}
 use Rattle.def_histories.specs.History.{find_frame, without}
+use Rattle.std.specs.Option.{option_map}
 use Rattle.lf_desk.specs.Looks.{is_new_enough}
+use Rattle.lf_core.specs.declared.frames.Kept.{Kept}
+use Rattle.lf_core.specs.Kept.{live_of, lives, has_name, find_kept, without_kept, IsRead, AreRead}
 
 pub some_from : {A : Type 0} (o : Option A) → is_some o ≡ true → IsSome o
 some_from None e = absurd (false≢true e)
 some_from (Some x) e = refl
 
--- where no frame is found, none is left out
-kept : (name : List ℕ) (frame : Live) (rest : List Live) (b : Bool)
-    → (is_some (find_frame name rest) ≡ false → without name rest ≡ rest)
-    → is_some (cond b (Some frame) (find_frame name rest)) ≡ false
-    → cond (not b) (frame ∷ without name rest) (without name rest) ≡ frame ∷ rest
-kept name frame rest true ih e = absurd (false≢true (sym e))
-kept name frame rest false ih e = ap (λ (w : List Live). frame ∷ w) (ih e)
+-- where none passes, none is left out
+kept_first : {X : Type 0} (p : X → Bool) (x : X) (rest : List X) (b : Bool)
+    → (is_some (find p rest) ≡ false → filter (λ y. not (p y)) rest ≡ rest)
+    → is_some (cond b (Some x) (find p rest)) ≡ false
+    → cond (not b) (x ∷ filter (λ y. not (p y)) rest) (filter (λ y. not (p y)) rest) ≡ x ∷ rest
+kept_first p x rest true ih e = absurd (false≢true (sym e))
+kept_first {X} p x rest false ih e = ap (λ (w : List X). x ∷ w) (ih e)
 
-pub none_left_out : (name : List ℕ) (frames : List Live) → is_some (find_frame name frames) ≡ false → without name frames ≡ frames
-none_left_out name [] e = refl
-none_left_out name (frame ∷ rest) e = kept name frame rest (text_eq name frame.name) (none_left_out name rest) e
+pub none_left_out : {X : Type 0} (p : X → Bool) (xs : List X) → is_some (find p xs) ≡ false → filter (λ x. not (p x)) xs ≡ xs
+none_left_out p [] e = refl
+none_left_out p (x ∷ rest) e = kept_first p x rest (p x) (none_left_out p rest) e
 
 -- an item that passes is found
 passes : {X : Type 0} (p : X → Bool) (x : X) (xs : List X) (b : Bool) → (b ≡ false → is_some (find p xs) ≡ true)
@@ -84,3 +87,74 @@ pub not_new : (name : List ℕ) (frames : List Live) (frame : Live) (need : ℕ)
 not_new name frames frame need all e =
     too_old need frame.published
     (passing (λ (one : Live). is_none one.published) (λ (one : Live). text_eq name one.name) frames frame all e)
+
+-- ---- frames beside what their texts mean
+
+find_first : (name : List ℕ) (kept : Kept) (rest : List Kept) (b : Bool)
+    → option_map live_of (find_kept name rest) ≡ find_frame name (lives rest)
+    → option_map live_of (cond b (Some kept) (find_kept name rest)) ≡ cond b (Some kept.live) (find_frame name (lives rest))
+find_first name kept rest true ih = refl
+find_first name kept rest false ih = ih
+
+pub find_lives : (name : List ℕ) (frames : List Kept) → option_map live_of (find_kept name frames) ≡ find_frame name (lives frames)
+find_lives name [] = refl
+find_lives name (kept ∷ rest) = find_first name kept rest (has_name name kept) (find_lives name rest)
+
+left_first : (name : List ℕ) (kept : Kept) (rest : List Kept) (b : Bool)
+    → lives (without_kept name rest) ≡ without name (lives rest)
+    → lives (cond b (kept ∷ without_kept name rest) (without_kept name rest)) ≡ cond b (kept.live ∷ without name (lives rest)) (without name (lives rest))
+left_first name kept rest true ih = ap (λ (w : List Live). kept.live ∷ w) ih
+left_first name kept rest false ih = ih
+
+pub without_lives : (name : List ℕ) (frames : List Kept) → lives (without_kept name frames) ≡ without name (lives frames)
+without_lives name [] = refl
+without_lives name (kept ∷ rest) = left_first name kept rest (not (has_name name kept)) (without_lives name rest)
+
+pub lives_length : (frames : List Kept) → length (lives frames) ≡ length frames
+lives_length [] = refl
+lives_length (kept ∷ rest) = ap suc (lives_length rest)
+
+pub without_lives_length : (name : List ℕ) (frames : List Kept) → length (without_kept name frames) ≡ length (without name (lives frames))
+without_lives_length name frames = sym (lives_length (without_kept name frames)) ∙ ap length (without_lives name frames)
+
+pub lives_end : (frames : List Kept) (kept : Kept) → lives (frames ++ kept ∷ []) ≡ lives frames ++ kept.live ∷ []
+lives_end [] kept = refl
+lives_end (first ∷ rest) kept = ap (λ (w : List Live). first.live ∷ w) (lives_end rest kept)
+
+read_first : (name : List ℕ) (kept : Kept) (rest : List Kept) (b : Bool) → IsRead kept → AreRead (without_kept name rest)
+    → AreRead (cond b (kept ∷ without_kept name rest) (without_kept name rest))
+read_first name kept rest true is all = (is, all)
+read_first name kept rest false is all = all
+
+pub read_left : (name : List ℕ) (frames : List Kept) → AreRead frames → AreRead (without_kept name frames)
+read_left name [] all = tt
+read_left name (kept ∷ rest) all = read_first name kept rest (not (has_name name kept)) all.0 (read_left name rest all.1)
+
+pub read_end : (frames : List Kept) (kept : Kept) → AreRead frames → IsRead kept → AreRead (frames ++ kept ∷ [])
+read_end [] kept all is = (is, tt)
+read_end (first ∷ rest) kept all is = (all.0, read_end rest kept all.1 is)
+
+found_first : (name : List ℕ) (first kept : Kept) (rest : List Kept) (b : Bool) → IsRead first
+    → (find_kept name rest ≡ Some kept → IsRead kept) → cond b (Some first) (find_kept name rest) ≡ Some kept → IsRead kept
+found_first name first kept rest true is ih e = subst IsRead (ap (λ (o : Option Kept). unwrap_or o first) e) is
+found_first name first kept rest false is ih e = ih e
+
+pub found_read : (name : List ℕ) (frames : List Kept) (kept : Kept) → AreRead frames → find_kept name frames ≡ Some kept → IsRead kept
+found_read name [] kept all e = absurd (false≢true (ap is_some e))
+found_read name (first ∷ rest) kept all e =
+    found_first name first kept rest (has_name name first) all.0 (found_read name rest kept all.1) e
+
+-- what is found is live
+pub found_live : (name : List ℕ) (frames : List Kept) (kept : Kept) → find_kept name frames ≡ Some kept
+    → find_frame name (lives frames) ≡ Some kept.live
+found_live name frames kept e = sym (find_lives name frames) ∙ ap (option_map live_of) e
+
+pub none_live : (name : List ℕ) (frames : List Kept) → find_kept name frames ≡ None → find_frame name (lives frames) ≡ None
+none_live name frames e = sym (find_lives name frames) ∙ ap (option_map live_of) e
+
+pub is_live : (name : List ℕ) (frames : List Kept) → is_some (find_kept name frames) ≡ is_some (find_frame name (lives frames))
+is_live name frames = go (find_kept name frames) ∙ ap is_some (find_lives name frames)
+  where
+    go : (o : Option Kept) → is_some o ≡ is_some (option_map live_of o)
+    go None = refl
+    go (Some kept) = refl

@@ -1,3 +1,4 @@
+pub mod Kept
 pub mod Replayed
-pub mod Unordered
+pub mod Checks
 pub mod Seat

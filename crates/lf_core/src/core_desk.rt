@@ -1,12 +1,13 @@
+//! The desk of a program that serves one stream: one seat alone at a state.
 ghost use Rattle.std.specs.Prelude.{◌≡◌, true};
 ghost use Rattle.def_histories.specs.Legal.{IsLegal};
 ghost use Rattle.def_histories.specs.LegalProp.{is_legal-prop};
-ghost use Rattle.lf_desk.specs.Accepted.{is_first_frame};
+ghost use Rattle.lf_frames.specs.FrameTexts.{is_frame};
 
 use crate::state::State;
 use lf_base::Memory;
-use lf_desk::Desk;
-use lf_model::{CommitErr, FramedNow, Look, RegisterErr};
+use lf_desk::{CommitErr, Desk, RegisterErr};
+use lf_model::{FramedNow, Look};
 use lf_rdf::Patch;
 use std::alloc::Global;
 
@@ -15,7 +16,7 @@ use std::alloc::Global;
 pub struct CoreDesk {
     state: State,
     seat: u64,
-    ghost legal: { IsLegal is_first_frame state } by { is_legal-prop is_first_frame state },
+    ghost legal: { IsLegal is_frame state } by { is_legal-prop is_frame state },
 }
 
 impl CoreDesk {
@@ -24,7 +25,7 @@ impl CoreDesk {
     /// A seat at a state. It takes no memory.
     pub fn new(state: State, seat: u64) -> CoreDesk
         ensures history { history_of result ≡ state }
-        ensures legal { IsLegal is_first_frame (history_of result) }
+        ensures legal { IsLegal is_frame (history_of result) }
         ensures seat { seat_of result ≡ seat }
     {
         state.history_is_legal();

@@ -1,14 +1,12 @@
 //! The state: one history, and what replaying it gives.
 #![tactic(auto)]
 
-mod check;
-mod check_patch;
+mod committing;
 mod core_desk;
 mod entries;
-mod framed;
 mod frames;
-mod patches;
-mod quads;
+mod limits;
+mod registering;
 mod state;
 #[cfg(test)]
 mod tests;

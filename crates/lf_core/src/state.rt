@@ -1,38 +1,46 @@
-ghost use Rattle.std.specs.Prelude.{length, suc, ◌≡◌, [], ◌∷◌, ◌++◌, ◌≤◌, Ok, IfOk, OnOk, OnErr, true, is_some, if◌then◌else◌};
+//! The state: one history and what replaying it gives. A session's desk and the command `frame` call it.
+ghost use Rattle.std.specs.Prelude.{length, suc, ◌≡◌, ◌+◌, ◌<◌, [], ◌∷◌, ◌++◌, ◌≤◌, Ok, IfOk, OnOk, OnErr, true, is_some, if◌then◌else◌};
 ghost use Rattle.std.specs.Option.{option_copied};
+ghost use Rattle.def_contexts.specs.FrameValues.{frame_meaning};
+ghost use Rattle.def_scratch.specs.Scratch.{scratch_frame};
+ghost use Rattle.lf_frames.specs.FrameTexts.{is_frame, accepted, frame_text};
 ghost use Rattle.def_histories.specs.declared.operation.Operation.TheVariants.{Commit, Register, Retire};
 ghost use Rattle.def_histories.specs.History.{commits, registrations, text_bytes, live};
-ghost use Rattle.def_histories.specs.Legal.{IsLegal, live_text};
-ghost use Rattle.lf_desk.specs.Accepted.{is_first_frame};
+ghost use Rattle.def_histories.specs.Legal.{IsLegal, live_text, most_commits, most_text_bytes};
+ghost use Rattle.def_histories.specs.Replay.{newest_dataset};
 ghost use Rattle.lf_desk.specs.RegisterAnswer.{is_live_text, others, register_answer, registered_by, Answers};
 ghost use Rattle.lf_desk.specs.CommitAnswer.{commit_answer, CommitAnswers, committed_by};
 ghost use Rattle.lf_desk.specs.Looks.{Looks, Frames};
-ghost use Rattle.def_datasets.specs.Dataset.{holds};
-ghost use Rattle.def_histories.specs.Replay.{newest_dataset};
-ghost use Rattle.lf_core.specs.Unordered.{kept, entered};
 
-use crate::check::check_register;
-use crate::check_patch::check_commit;
-use crate::entries::{enter, make_places, registration};
-use crate::framed::document_of;
-use crate::frames::{enter_frame, find_frame, frame_of, make_frame_places, remove_name, take_name};
-use crate::quads::{change, is_held, kept_count};
-use def_histories::{Live, Operation};
+use crate::committing::apply_patch;
+use crate::entries::{Ready, enter, make_places, ready_registration};
+use crate::frames::{Kept, enter_frame, find_kept, others, remove_name, take_name};
+use crate::limits::check_commit;
+use crate::registering::try_registration;
+use def_histories::Operation;
 use lf_base::{Memory, Text};
-use lf_model::{CommitErr, FramedNow, Look, RegisterErr};
-use lf_rdf::{Patch, Quad, QuadList, Signed};
+use lf_desk::{CommitErr, RegisterErr};
+use lf_index::Index;
+use lf_model::{Doc, Frame, FramedNow, Look};
+use lf_rdf::Patch;
+use lf_scratch::frame_dataset;
 use std::alloc::Global;
 use std::marker::Model;
 
 /// The newest version, the live frames and the history that made them. Contracts see a state as its history.
 #[derive(Drop)]
 pub struct State {
-    /// The quads of the newest version, in any order.
-    quads: QuadList,
-    frames: Vec<Live>,
+    /// The quads of the newest version.
+    index: Index,
+    /// In order of their registrations.
+    frames: Vec<Kept>,
+    /// With places for the retirement of each live frame.
     history: Vec<Operation>,
+    /// How many commits there are.
     versions: u64,
+    /// How many registrations there are.
     registrations: u64,
+    /// How many bytes all patch texts and frame texts have.
     bytes: u64,
 }
 
@@ -45,7 +53,7 @@ impl Model for State {
 
     ghost view = { λ s. s.history.items };
 
-    ghost invariant = { λ s. IsReplayed s.history.items s.quads s.frames.items s.versions s.registrations s.bytes (vec_capacity s.history) };
+    ghost invariant = { λ s. IsReplayed s.history.items s.index s.frames.items s.versions s.registrations s.bytes (vec_capacity s.history) };
 }
 
 impl State {
@@ -54,7 +62,7 @@ impl State {
         ensures { IfOk result (λ state. state ≡ []) }
     {
         Ok(State {
-            quads: QuadList::new(alloc),
+            index: Index::new(alloc)?,
             frames: Vec::new(alloc),
             history: Vec::new(alloc),
             versions: 0,
@@ -65,7 +73,7 @@ impl State {
 
     /// What a state has gone through is a legal history. It does nothing.
     pub fn history_is_legal(&self)
-        ensures { IsLegal is_first_frame self.now }
+        ensures { IsLegal is_frame self.now }
     {
         let _ = &self.history;
     }
@@ -81,8 +89,8 @@ impl State {
     pub fn frame_text(&self, name: &str) -> Option<&Text>
         ensures { option_copied result ≡ live_text self.now name.now }
     {
-        match find_frame(self.frames.as_slice(), name) {
-            Some(frame) => Some(&frame.text),
+        match find_kept(self.frames.as_slice(), name) {
+            Some(kept) => Some(&kept.live.text),
             None => None,
         }
     }
@@ -91,13 +99,20 @@ impl State {
     pub fn look(&self, name: &str, need: u64) -> Result<Look, Memory>
         ensures { Looks self.now name.now need result }
     {
-        match find_frame(self.frames.as_slice(), name) {
-            Some(frame) => Ok(Look::Pending {
-                have: frame.published,
+        match find_kept(self.frames.as_slice(), name) {
+            Some(kept) => Ok(Look::Pending {
+                have: kept.live.published,
                 need,
             }),
             None => Ok(Look::Unknown),
         }
+    }
+
+    /// The document of a frame over the newest version, from scratch.
+    pub fn document(&self, alloc: Global, frame: &Frame) -> Result<Doc, Memory>
+        ensures { IfOk result (λ doc. doc ≡ scratch_frame frame.now (newest_dataset self.now)) }
+    {
+        Ok(frame_dataset(alloc, &self.index, frame)?)
     }
 
     /// The document of the newest version for the frame that is live under a name. Its time is that of the document, and
@@ -105,9 +120,9 @@ impl State {
     pub fn frame_now(&self, alloc: Global, name: &str) -> Result<Option<FramedNow>, Memory>
         ensures { Frames self.now name.now result }
     {
-        match find_frame(self.frames.as_slice(), name) {
-            Some(frame) => Ok(Some(FramedNow {
-                doc: document_of(alloc, frame.text.as_str(), &self.quads)?,
+        match find_kept(self.frames.as_slice(), name) {
+            Some(kept) => Ok(Some(FramedNow {
+                doc: frame_dataset(alloc, &self.index, &kept.frame)?,
                 version: self.versions,
             })),
             None => Ok(None),
@@ -118,8 +133,8 @@ impl State {
     pub(crate) fn is_live_text(&self, name: &str, text: &str) -> bool
         ensures { result ≡ is_live_text self.now name.now text.now }
     {
-        match find_frame(self.frames.as_slice(), name) {
-            Some(frame) => frame.text.as_str() == text,
+        match find_kept(self.frames.as_slice(), name) {
+            Some(kept) => kept.live.text.as_str() == text,
             None => false,
         }
     }
@@ -128,10 +143,7 @@ impl State {
     pub(crate) fn others(&self, name: &str) -> u64
         ensures { result ≡ others self.now name.now }
     {
-        self.frames
-            .iter()
-            .filter(|frame| name != frame.name.as_str())
-            .count() as u64
+        others(self.frames.as_slice(), name)
     }
 
     /// How many registrations there are.
@@ -142,36 +154,12 @@ impl State {
     }
 
     /// How many bytes all texts have.
-    #[tactic(auto, unfolding(lf_desk::specs::Accepted::most_first_bytes))]
+    #[tactic(auto, unfolding(def_histories::specs::Legal::most_text_bytes))]
     pub(crate) fn text_bytes(&self) -> u64
         ensures told { result ≡ text_bytes self.now }
-        ensures few { result ≤ 65536 }
+        ensures few { result ≤ 268435456 }
     {
         self.bytes
-    }
-
-    /// Whether a quad is in the newest version.
-    #[tactic(auto, using(crate::proofs::UnorderedProofs::held_unordered))]
-    pub(crate) fn holds(&self, quad: &Quad) -> bool
-        ensures { result ≡ holds (newest_dataset self.now) quad.now }
-    {
-        is_held(self.quads.as_slice(), quad)
-    }
-
-    /// How many quads there are in the newest version.
-    pub(crate) fn quad_count(&self) -> u64
-        ensures { result ≡ length (newest_dataset self.now) }
-    {
-        self.quads.len()
-    }
-
-    /// How many quads of the newest version stay where a patch is applied.
-    #[tactic(auto, using(crate::proofs::UnorderedProofs::kept_unordered), unfolding(def_histories::specs::Legal::most_quads))]
-    pub(crate) fn kept_count(&self, lines: &[Signed]) -> u64
-        ensures told { result ≡ length (kept (newest_dataset self.now) lines.now) }
-        ensures few { result ≤ 400000 }
-    {
-        kept_count(self.quads.as_slice(), lines)
     }
 
     /// Registers a frame's text under a name, and takes the place of the entry that its retirement will make. Answers
@@ -187,63 +175,81 @@ impl State {
         ensures answer { Answers result (register_answer self.old name.now text.now) }
         ensures entry { self.new ≡ self.old ++ registered_by seat name.now text.now result }
     {
-        if !check_register(alloc, self, name, text)? {
-            return Ok(false);
+        match try_registration(alloc, self, name, text) {
+            Ok(Some(frame)) => match self.put_frame(alloc, seat, name, text, frame) {
+                Ok(()) => Ok(true),
+                Err(Memory) => Err(RegisterErr::Memory),
+            },
+            Ok(None) => Ok(false),
+            Err(error) => Err(error),
         }
-        self.put_frame(alloc, seat, name, text)?;
-        Ok(true)
     }
 
-    /// Puts a frame that may be registered.
-    fn put_frame(&mut self, alloc: Global, seat: u64, name: &str, text: &str) -> Result<(), Memory>
+    // Puts a frame that may be registered.
+    fn put_frame(
+        &mut self,
+        alloc: Global,
+        seat: u64,
+        name: &str,
+        text: &str,
+        frame: Frame,
+    ) -> Result<(), Memory>
         requires fresh { register_answer self.old name.now text.now ≡ Ok true }
+        requires read { frame_text text.now ≡ accepted (frame_meaning frame) }
         ensures ok { OnOk result (self.new ≡ self.old ++ Register seat name.now text.now ∷ []) }
         ensures err { OnErr result (self.new ≡ self.old) }
     {
-        let entry = registration(alloc, seat, name, text)?;
-        let frame = frame_of(alloc, self.registrations + 1, name, text)?;
-        make_places(&mut self.history, self.frames.len() + 2)?;
-        make_frame_places(&mut self.frames, 1)?;
-        remove_name(&mut self.frames, name);
-        enter_frame(&mut self.frames, frame);
-        enter(&mut self.history, entry);
-        self.registrations += 1;
-        self.bytes += text.len() as u64;
-        Ok(())
+        let number = self.registrations + 1;
+        match ready_registration(
+            alloc,
+            &mut self.history,
+            &mut self.frames,
+            seat,
+            number,
+            name,
+            text,
+        ) {
+            Ok(Ready { entry, live }) => {
+                remove_name(&mut self.frames, name);
+                enter_frame(&mut self.frames, Kept { live, frame });
+                enter(&mut self.history, entry);
+                self.registrations = number;
+                self.bytes += text.len() as u64;
+                Ok(())
+            }
+            Err(Memory) => {
+                drop(frame);
+                Err(Memory)
+            }
+        }
     }
 
     /// Commits a patch as the next version, also where it changes nothing, and gives the version's number. The refusals
-    /// are those of `Desk::commit`, in its order; they and `Memory` leave the state as it was. Its time grows as the
-    /// lines of the patch times the quads of the version and the lines.
+    /// are those of `Desk::commit`, in its order; they and `Memory` leave the state as it was. Its time grows with the
+    /// lines of the patch, and as the logarithm of the version's quads.
     pub fn commit(&mut self, alloc: Global, seat: u64, patch: Patch) -> Result<u64, CommitErr>
         ensures answer { CommitAnswers result (commit_answer self.old patch) }
         ensures entry { self.new ≡ self.old ++ committed_by seat patch result }
     {
-        let quads = check_commit(alloc, self, &patch)?;
-        self.put_patch(alloc, seat, patch, quads)?;
-        Ok(self.versions)
+        check_commit(self, patch.bytes)?;
+        self.put_patch(alloc, seat, patch)
     }
 
-    /// Puts a patch that may be committed, with the quads that it adds to those that stay.
-    fn put_patch(
-        &mut self,
-        alloc: Global,
-        seat: u64,
-        patch: Patch,
-        quads: Vec<Quad>,
-    ) -> Result<(), Memory>
-        requires fresh { commit_answer self.old patch ≡ Ok (suc (commits self.old)) }
-        requires entered { quads.items ≡ entered (newest_dataset self.old) patch.lines }
-        ensures ok { OnOk result (self.new ≡ self.old ++ Commit seat patch ∷ []) }
-        ensures err { OnErr result (self.new ≡ self.old) }
+    // Puts a patch that the history has room for.
+    fn put_patch(&mut self, alloc: Global, seat: u64, patch: Patch) -> Result<u64, CommitErr>
+        requires counted { commits self.old < most_commits }
+        requires sized { text_bytes self.old + patch.bytes ≤ most_text_bytes }
+        ensures answer { CommitAnswers result (commit_answer self.old patch) }
+        ensures entry { self.new ≡ self.old ++ committed_by seat patch result }
     {
-        let bytes = patch.bytes;
         make_places(&mut self.history, self.frames.len() + 1)?;
-        change(alloc, &mut self.quads, patch.lines.as_slice(), quads)?;
+        let index = apply_patch(alloc, &self.index, &patch)?;
+        let bytes = patch.bytes;
+        self.index = index;
         enter(&mut self.history, Operation::Commit { seat, patch });
         self.versions += 1;
         self.bytes += bytes;
-        Ok(())
+        Ok(self.versions)
     }
 
     /// Ends a frame. Answers false exactly where no frame is live under the name. Takes no memory.

@@ -1,8 +1,8 @@
 use crate::{CoreDesk, State};
 use def_histories::{Operation, OperationList};
 use lf_base::{Memory, Text, TryCopy};
-use lf_desk::Desk;
-use lf_model::{CommitErr, Counted, Doc, FramedNow, Look, RegisterErr};
+use lf_desk::{CommitErr, Desk, RegisterErr};
+use lf_model::{Counted, Doc, FramedNow, LdError, Look};
 use lf_rdf::{Patch, Quad, Signed, SignedList, Term, xsd_string};
 use std::alloc::Global;
 use std::test::Fail;
@@ -140,15 +140,23 @@ fn history_full(rt: HostRuntime) -> Result<(), Fail> {
 }
 
 #[test]
-fn patches_are_refused(rt: HostRuntime) -> Result<(), Fail> {
+fn long_texts_are_refused(rt: HostRuntime) -> Result<(), Fail> {
     let alloc = rt.alloc();
     let mut desk = desk(alloc)?;
-    let blank = patch(alloc, &[true], Some("b"), 24)?;
-    assert!(rt; matches!(desk.commit(alloc, blank), Err(CommitErr::NotBuilt)));
-    let longest = patch(alloc, &[true], None, 65_536)?;
+    let longest = patch(alloc, &[true], Some("b"), 268_435_456)?;
     assert!(rt; matches!(desk.commit(alloc, longest), Ok(1)));
     let one_more = patch(alloc, &[false], None, 1)?;
-    assert!(rt; matches!(desk.commit(alloc, one_more), Err(CommitErr::NotBuilt)));
+    let refused = desk.commit(alloc, one_more);
+    assert!(rt;
+        matches!(
+            refused,
+            Err(CommitErr::HistoryFull {
+                of: Counted::Bytes,
+                have: 268_435_456,
+                limit: 268_435_456
+            })
+        )
+    );
     assert!(rt; desk.newest() == 1);
     Ok(())
 }
@@ -175,8 +183,9 @@ fn names_and_texts_are_refused(rt: HostRuntime) -> Result<(), Fail> {
     assert!(rt; is_new(alloc, &mut desk, long, ALL) && is_new(alloc, &mut desk, "a", ALL));
     let longer = "0123456789_ABCDEFGHIJKLMNOPQRSTUVWXYZ-abcdefghijklmnopqrstuvwxyz0";
     assert!(rt; is_bad_name(alloc, &mut desk, longer));
-    let spaced = desk.register(alloc, "f", "{ }");
-    assert!(rt; matches!(spaced, Err(RegisterErr::NotBuilt)));
+    assert!(rt; matches!(desk.register(alloc, "f", "{"), Err(RegisterErr::NotJson)));
+    let refused = desk.register(alloc, "f", "{\"@embed\":\"@link\"}");
+    assert!(rt; matches!(refused, Err(RegisterErr::Ld(LdError::InvalidEmbedValue))));
     Ok(())
 }
 

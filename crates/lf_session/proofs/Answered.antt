@@ -2,16 +2,16 @@
 use Rattle.std.proofs.Common.{◌≡◌, ◌⊎◌, inl, inr, ℕ, List, [], refl, sym, subst, rules}
 use Rattle.std.specs.Prelude.{Result, Err, Bool, IsUtf8}
 use Rattle.lf_base.specs.declared.memory.Memory.{Memory}
-use Rattle.lf_rdf.specs.declared.quad.Quad.{Quad}
-use Rattle.lf_first.specs.First.{IsFirstText}
-use Rattle.lf_model.specs.declared.desk.RegisterErr.{RegisterErr}
-use Rattle.lf_model.specs.declared.desk.RegisterErr.TheVariants as r
+use Rattle.def_patch_texts.specs.declared.kind.LineKind.{LineKind}
+use Rattle.def_patch_texts.specs.BadLine.{IsBadLine}
+use Rattle.lf_desk.specs.declared.refusals.RegisterErr.{RegisterErr}
+use Rattle.lf_desk.specs.declared.refusals.RegisterErr.TheVariants as r
 use Rattle.def_histories.specs.declared.operation.Operation.{Operation}
 use Rattle.lf_desk.specs.RegisterAnswer.{register_answer, Answers, registered_by}
 use Rattle.lf_session.specs.declared.request.Refusal.{Refusal}
 use Rattle.lf_session.specs.declared.request.Asked.{Asked}
 use Rattle.lf_session.specs.declared.request.Asked.TheVariants as asks
-use Rattle.lf_session.specs.Replies.{Reply, out_of_memory, not_built, register_reply}
+use Rattle.lf_session.specs.Replies.{Reply, out_of_memory, bad_line_reply, register_reply}
 use Rattle.lf_session.specs.Requests.{refused_reply}
 use Rattle.lf_session.specs.Answers.{IsAnswered, no_text_answer}
 
@@ -46,10 +46,11 @@ pub delete-lost : (seat need : ℕ) (name body : List ℕ) (seen : List Operatio
     → reply ≡ out_of_memory → IsAnswered seat name body need asks.Delete seen seen [] reply
 delete-lost seat need name body seen refused reply e = (refl, (Err refused, tt, refl, e))
 
-pub commit-not_built : (seat need : ℕ) (name body : List ℕ) (seen : List Operation) (reply : Reply)
-    → ((quads : List Quad) → IsFirstText body quads → ⊥) → reply ≡ not_built
+pub commit-bad : (seat need : ℕ) (name body : List ℕ) (seen : List Operation) (kind : LineKind) (line : ℕ) (reply : Reply)
+    → IsBadLine body line kind → reply ≡ bad_line_reply kind line
     → IsAnswered seat name body need asks.Commit seen seen [] reply
-commit-not_built seat need name body seen reply none e = (refl, inr (inl (refl, e, none)))
+commit-bad seat need name body seen kind line reply bad e =
+    (refl, inr (inl (record { line = line; kind = kind; bad = bad; makes = refl; replies = e })))
 
 pub commit-lost : (seat need : ℕ) (name body : List ℕ) (seen : List Operation) (reply : Reply)
     → reply ≡ out_of_memory → IsAnswered seat name body need asks.Commit seen seen [] reply

@@ -3,6 +3,8 @@ use Rattle.std.proofs.Common.{◌≡◌, refl, sym, ◌∙◌, ap, arith, ◌<�
 use Rattle.std.specs.List.{list_all, flat_map}
 use Rattle.std.proofs.lemmas.Bool.{and_parts, false≢true, not-true, or_parts, or_from, false_from_ne_true, not_from_false, lt-leb, ltb-true, ltb-false, eqb-true, ne_eqb}
 use Rattle.def_printed.specs.JsonText.{json_byte, json_string, json_member, json_object}
+use Rattle.def_patch_texts.specs.declared.kind.LineKind.{LineKind}
+use Rattle.def_patch_texts.specs.declared.kind.LineKind.TheVariants as kinds
 use Rattle.lf_model.specs.ErrorName.{name_of}
 use Rattle.lf_model.specs.declared.desk.Counted.{Counted}
 use Rattle.lf_model.specs.declared.desk.Counted.TheVariants as counted
@@ -11,7 +13,8 @@ use Rattle.lf_model.specs.declared.document.Limit.TheVariants as limits
 use Rattle.lf_model.specs.declared.error.LdError.{LdError}
 use Rattle.lf_model.specs.declared.error.LdError.TheVariants.{CollidingKeywords, CyclicIriMapping, InvalidEmbedValue, InvalidIdValue, InvalidReverseValue, InvalidVersionValue, InvalidContainerMapping, InvalidDefaultLanguage, InvalidFrame, InvalidIriMapping, InvalidKeywordAlias, InvalidLanguageMapping, InvalidLocalContext, InvalidPrefixValue, InvalidReverseProperty, InvalidTermDefinition, InvalidTypeMapping, InvalidTypeValue, InvalidValueObject, InvalidVocabMapping, KeywordRedefinition, LoadingRemoteContextFailed, IriConfusedWithPrefix}
 use Rattle.def_histories.specs.Legal.{is_frame_name, is_name_byte, most_name}
-use Rattle.lf_session.specs.Bodies.{error_body, frame_body, version_body, number_or_null, pending_body, frame_too_long_body, too_many_body, counted_name, history_full_body, fractional_body, limit_name, limit_number, limit_body}
+use Rattle.lf_session.specs.Bodies.{error_body, frame_body, version_body, number_or_null, pending_body, bad_line_body, frame_too_long_body, too_many_body, history_full_body, fractional_body, limit_body}
+use Rattle.lf_names.specs.Names.{kind_name, counted_name, limit_name, limit_number}
 use Rattle.lf_session.specs.BodyLaws.{is_unescaped, text_member, number_member, BodiesAreJson}
 
 -- ---- texts that need no escape
@@ -153,6 +156,16 @@ too_long-json : (size : ℕ)
 unfolding frame_too_long_body
 too_long-json size = refl
 
+bad_line-json : (kind : LineKind) (line : ℕ)
+    → bad_line_body kind line
+    ≡ json_object (text_member (codes "error") (kind_name kind) ∷ number_member (codes "line") line ∷ [])
+unfolding bad_line_body kind_name
+bad_line-json kinds.Syntax line = refl
+bad_line-json kinds.RelativeIri line = refl
+bad_line-json kinds.BadEscape line = refl
+bad_line-json kinds.NotUtf8 line = refl
+bad_line-json kinds.LineTooLong line = refl
+
 quads-json : (have would : ℕ)
     → too_many_body (codes "quads") have would
     ≡ json_object (text_member (codes "error") (codes "too many quads") ∷ number_member (codes "have") have ∷ number_member (codes "would") would ∷ [])
@@ -204,6 +217,7 @@ bodies_are_json = record {
   version = version-json;
   pending = pending-json;
   too_long = too_long-json;
+  bad_line = bad_line-json;
   quads = quads-json;
   frames = frames-json;
   full = full-json;

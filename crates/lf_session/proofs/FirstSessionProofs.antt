@@ -1,5 +1,5 @@
 -- The worked session is one.
-use Rattle.std.proofs.Common.{◌≡◌, refl, sym, ap, arith, ◌<◌, List, [], ◌∷◌, ◌++◌, ℕ, length, Bool, true, Some, None, Ok, inl, codes, All}
+use Rattle.std.proofs.Common.{◌≡◌, refl, sym, ◌∙◌, ap, arith, ◌<◌, List, [], ◌∷◌, ◌++◌, ℕ, length, Bool, true, Option, Some, None, Ok, inl, codes, All}
 use Rattle.std.specs.Char.{encode_utf8}
 use Rattle.std.specs.Str.{IsUtf8}
 use Rattle.std.specs.List.{list_all}
@@ -9,26 +9,30 @@ use Rattle.std.proofs.lemmas.List.{append-nil}
 use Rattle.std.proofs.lemmas.List.Sums.{AllPass-from_list_all}
 use Rattle.std.proofs.lemmas.List.Elements.{All-nil, All-cons}
 use Rattle.httparse.specs.Grammar.{IsRequestHead, Field, IsField, AllPass, is_token_byte, is_uri_byte, is_value_byte, trim_ows, print_request}
-use Rattle.lf_rdf.specs.Equality.{text_eq}
-use Rattle.lf_rdf.specs.Vocabulary.{rdf_type, xsd_string}
-use Rattle.lf_first.specs.First.{IsFirstText, quads_of}
-use Rattle.lf_rdf.specs.declared.quad.Quad.{Quad}
+use Rattle.lf_rdf.specs.declared.quad.Signed.{Signed}
+use Rattle.lf_rdf.specs.Vocabulary.{xsd_string}
+use Rattle.def_patch_texts.specs.PatchText.{absolute_iris, IsPatchText, IsLine}
+use Rattle.def_patch_texts.specs.Reading.{line_at}
+use Rattle.def_patch_texts.specs.WorkedCases.{reading_open}
+use Rattle.def_patch_texts.proofs.TakesLine.{line_takes}
 use Rattle.lf_model.specs.declared.desk.Look.TheVariants as looked
 use Rattle.def_histories.specs.History.{registered}
-use Rattle.lf_first.specs.Reading.{after_byte}
-use Rattle.lf_expand.specs.FirstFrame.{frame_at, body_at}
-use Rattle.lf_small.specs.Small.{small}
+use Rattle.lf_model.specs.declared.document.Doc.{Doc}
+use Rattle.lf_model.specs.declared.document.Doc.TheVariants.{Bytes}
+use Rattle.def_histories.specs.Replay.{newest_dataset}
+use Rattle.lf_frames.specs.FrameTexts.{is_frame, document}
+use Rattle.lf_frames.specs.Worked.{texts_open}
 use Rattle.def_histories.specs.declared.operation.Operation.{Operation}
 use Rattle.def_histories.specs.declared.operation.Operation.TheVariants as entry
 use Rattle.def_histories.specs.Legal.{IsLegal, IsCommit, IsRegistration, most_quads, most_commits, most_registrations, most_text_bytes, most_frame_bytes, most_frames, most_name}
 use Rattle.def_histories.proofs.LegalProofs.{allowed_is_legal}
 use Rattle.lf_http.specs.Judge.{method_of, target_of}
-use Rattle.lf_desk.specs.Accepted.{is_first_frame, most_first_bytes}
 use Rattle.lf_desk.specs.Seats.{IsExtended}
 use Rattle.lf_session.specs.ReplyCases.{replies_open}
-use Rattle.lf_session.specs.Exchanges.{IsExchange, messages, answers}
+use Rattle.lf_session.specs.Replies.{framed_reply}
+use Rattle.lf_session.specs.Exchanges.{Exchange, IsExchange, messages, answers}
 use Rattle.lf_session.proofs.EmptyHistory.{empty_is_legal}
-use Rattle.lf_session.specs.FirstSession.{FirstSession, first_input, first_output, first_history, one_commit, patch, field, request_head, commit_exchange, register_exchange, look_exchange, refresh_exchange, first_exchanges, framed_now}
+use Rattle.lf_session.specs.FirstSession.{FirstSession, first_input, first_output, first_history, one_commit, quad, patch, field, request_head, commit_exchange, register_exchange, look_exchange, refresh_exchange, first_exchanges, framed_now}
 
 -- ---- the heads
 
@@ -84,14 +88,14 @@ commit-allowed : IsCommit [] 32 1
 unfolding most_quads most_commits most_text_bytes
 commit-allowed = record { counted = omega arith; sized = omega arith; held = omega arith }
 
-commit-legal : IsLegal is_first_frame one_commit
-commit-legal = allowed_is_legal is_first_frame [] (entry.Commit 0 patch) (empty_is_legal is_first_frame) commit-allowed
+commit-legal : IsLegal is_frame one_commit
+commit-legal = allowed_is_legal is_frame [] (entry.Commit 0 patch) (empty_is_legal is_frame) commit-allowed
 
-frame-text : is_first_frame (codes "{}") ≡ true
-unfolding is_first_frame frame_at body_at after_byte
+frame-text : is_frame (codes "{}") ≡ true
+unfolding texts_open
 frame-text = refl
 
-register-allowed : IsRegistration is_first_frame one_commit (codes "a") (codes "{}")
+register-allowed : IsRegistration is_frame one_commit (codes "a") (codes "{}")
 unfolding most_frame_bytes most_frames most_registrations most_text_bytes most_name
 register-allowed = record {
   named = refl;
@@ -103,36 +107,32 @@ register-allowed = record {
   sized = omega arith;
 }
 
-register-legal : IsLegal is_first_frame first_history
+register-legal : IsLegal is_frame first_history
 register-legal =
-    allowed_is_legal is_first_frame one_commit (entry.Register 0 (codes "a") (codes "{}")) commit-legal register-allowed
+    allowed_is_legal is_frame one_commit (entry.Register 0 (codes "a") (codes "{}")) commit-legal register-allowed
 
 -- ---- the exchanges
 
-abbrev quads : List Quad
-quads = quads_of patch.lines
+-- the line of the patch, and what stands behind its end
+abbrev line : List ℕ
+line = codes "<http://e/a> <http://e/p> \"x\" ."
 
-stated : IsFirstText commit_exchange.body quads
-unfolding xsd_string rdf_type
-stated = (
-  [],
-  record {
-    subject = codes "http://e/a";
-    predicate = codes "http://e/p";
-    object = codes "\"x\" .\n";
-    subject_iri = refl;
-    predicate_iri = refl;
-    states_subject = refl;
-    states_predicate = refl;
-    states_object = ((λ e. false≢true (sym (ap (text_eq (codes "http://e/p")) e))), refl, refl, refl, refl);
-    states_graph = refl;
-    spelled = refl;
-  },
-  refl,
-)
+abbrev added : Option Signed
+added = Some (record { add = true; quad = quad })
+
+line-states : IsLine line added
+unfolding reading_open xsd_string encode_utf8
+line-states = (omega arith, line, record { scalars = refl; encoded = refl }, line_takes absolute_iris line added refl)
+
+nothing-states : IsLine [] None
+unfolding reading_open encode_utf8
+nothing-states = (omega arith, [], record { scalars = refl; encoded = refl }, line_takes absolute_iris [] None refl)
+
+stated : IsPatchText commit_exchange.body patch.lines
+stated = (added, [], line-states, (None, [], nothing-states, refl, refl), refl)
 
 commit-is : IsExchange true 0 0 [] commit_exchange
-unfolding print_request method_of target_of trim_ows most_commits most_quads most_text_bytes most_first_bytes xsd_string rdf_type
+unfolding print_request method_of target_of trim_ows most_commits most_quads most_text_bytes xsd_string
 commit-is = record {
   is_head = commit-head;
   short = omega arith;
@@ -146,7 +146,7 @@ commit-is = record {
     refl,
     inl (record {
       patch = patch;
-      reads = record { states = stated; adds = refl; sized = refl };
+      reads = record { states = stated; sized = refl };
       result = Ok 1;
       says = refl;
       makes = refl;
@@ -156,7 +156,7 @@ commit-is = record {
 }
 
 register-is : IsExchange true 0 1 one_commit register_exchange
-unfolding print_request method_of target_of trim_ows most_frame_bytes most_frames most_registrations most_text_bytes most_name most_first_bytes is_first_frame frame_at body_at after_byte encode_utf8
+unfolding print_request method_of target_of trim_ows most_frame_bytes most_frames most_registrations most_text_bytes most_name texts_open encode_utf8
 register-is = record {
   is_head = register-head;
   short = omega arith;
@@ -210,15 +210,38 @@ read : first_input ≡ messages first_exchanges ++ []
 unfolding print_request
 read = refl
 
+-- the document of the last reply
+printed : document (codes "{}") (newest_dataset first_history) ≡ Bytes (codes "{\"@id\":\"http://e/a\",\"http://e/p\":\"x\"}")
+unfolding texts_open xsd_string
+printed = refl
+
+-- the last exchange, with this document
+abbrev refreshed : Doc → Exchange
+refreshed doc = record {
+  sent = refresh_exchange.sent;
+  head = refresh_exchange.head;
+  body = refresh_exchange.body;
+  seen = refresh_exchange.seen;
+  later = refresh_exchange.later;
+  made = refresh_exchange.made;
+  reply = framed_reply (Ok (Some (record { doc = doc; version = 1 })));
+}
+
+abbrev sent_with : Doc → List ℕ
+sent_with doc = answers (commit_exchange ∷ register_exchange ∷ look_exchange ∷ refreshed doc ∷ []) ++ []
+
+wrote-printed : first_output ≡ sent_with (Bytes (codes "{\"@id\":\"http://e/a\",\"http://e/p\":\"x\"}"))
+unfolding replies_open
+wrote-printed = refl
+
 wrote : first_output ≡ answers first_exchanges ++ []
-unfolding replies_open small xsd_string rdf_type frame_at body_at after_byte
-wrote = refl
+wrote = wrote-printed ∙ ap sent_with (sym printed)
 
 pub first_session : FirstSession
 first_session = record {
   rest = [];
   sent = [];
-  started = empty_is_legal is_first_frame;
+  started = empty_is_legal is_frame;
   chain = (commit-is, refl, (register-is, refl, (look-is, refl, (refresh-is, refl, tt))));
   read = read;
   wrote = wrote;

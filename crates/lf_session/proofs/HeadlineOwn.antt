@@ -6,8 +6,8 @@ use Rattle.std.proofs.lemmas.List.{append-nil}
 use Rattle.std.proofs.lemmas.List.Elements.{filter-append}
 use Rattle.lf_base.specs.declared.memory.Memory.{Memory}
 use Rattle.lf_rdf.specs.declared.quad.Patch.{Patch}
-use Rattle.lf_model.specs.declared.desk.CommitErr.{CommitErr}
-use Rattle.lf_model.specs.declared.desk.RegisterErr.{RegisterErr}
+use Rattle.lf_desk.specs.declared.refusals.CommitErr.{CommitErr}
+use Rattle.lf_desk.specs.declared.refusals.RegisterErr.{RegisterErr}
 use Rattle.def_histories.specs.declared.operation.Operation.{Operation}
 use Rattle.lf_desk.specs.CommitAnswer.{committed_by}
 use Rattle.lf_desk.specs.RegisterAnswer.{registered_by}
@@ -80,6 +80,6 @@ made-answered seat name body need asked.Commit seen later made reply by = commit
   where
     committed : Commits seat body seen made reply → AllMade seat made
     committed (inl done) = made-is seat made _ done.makes (made-committed seat done.patch done.result)
-    committed (inr (inl refused)) = made-none seat made refused.0
+    committed (inr (inl bad)) = made-none seat made bad.makes
     committed (inr (inr none)) = made-none seat made none.0
 made-answered seat name body need asked.Version seen later made reply by = made-none seat made by.1

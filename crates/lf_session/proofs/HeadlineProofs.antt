@@ -4,7 +4,7 @@ use Rattle.def_histories.specs.declared.operation.Operation.{Operation}
 use Rattle.def_histories.specs.Legal.{IsLegal}
 use Rattle.def_histories.proofs.LegalProofs.{prefix_is_legal}
 use Rattle.lf_http.specs.Reading.{name_of}
-use Rattle.lf_desk.specs.Accepted.{is_first_frame}
+use Rattle.lf_frames.specs.FrameTexts.{is_frame}
 use Rattle.lf_session.specs.Requests.{asked_by}
 use Rattle.lf_session.specs.Exchanges.{Exchange, IsExchange, IsChain, history_of, need_of, needed, last_history, last_need}
 use Rattle.lf_session.specs.Session.{Last, IsLast}
@@ -16,13 +16,13 @@ use Rattle.lf_session.proofs.OwnProofs.{own-session, made-session}
 -- what one exchange gives
 record Holds (need : ℕ) (x : Exchange) : Type 0 where
   pub trusted : IsTrusted (needed need x.head) x
-  pub legal : IsLegal is_first_frame (history_of x)
+  pub legal : IsLegal is_frame (history_of x)
 
 exchange-holds : (alone : Bool) (seat need : ℕ) (before : List Operation) (x : Exchange)
     → IsExchange alone seat need before x → Holds need x
 exchange-holds alone seat need before x is =
     let trust = answered-trust seat (name_of x.sent.target) x.body (needed need x.head) (asked_by x.head) x.seen x.later x.made x.reply
-    (prefix_is_legal is_first_frame x.later x.made is.legal) is.answered in
+    (prefix_is_legal is_frame x.later x.made is.legal) is.answered in
     record {
       trusted = record { document = trust.document; framed = trust.framed; versioned = trust.versioned; pending = trust.pending };
       legal = is.legal;
@@ -31,9 +31,9 @@ exchange-holds alone seat need before x is =
 -- what a chain of them gives
 record Hold (need : ℕ) (after : List Operation) (xs : List Exchange) : Type 0 where
   pub trusted : AreTrusted need xs
-  pub legal : IsLegal is_first_frame after
+  pub legal : IsLegal is_frame after
 
-chain-holds : (alone : Bool) (seat need : ℕ) (before : List Operation) (xs : List Exchange) → IsLegal is_first_frame before
+chain-holds : (alone : Bool) (seat need : ℕ) (before : List Operation) (xs : List Exchange) → IsLegal is_frame before
     → IsChain alone seat need before xs → Hold need (last_history before xs) xs
 chain-holds alone seat need before [] start chain = record { trusted = tt; legal = start }
 chain-holds alone seat need before (x ∷ xs) start chain =
@@ -49,7 +49,7 @@ trusted-more need (first ∷ xs) x all one = (all.0, trusted-more (need_of need 
 
 -- where nothing was made behind the chain
 same-history : (end after : List Operation) (xs : List Exchange) → Hold 0 end xs → after ≡ end → Hold 0 after xs
-same-history end after xs hold same = record { trusted = hold.trusted; legal = subst (IsLegal is_first_frame) (sym same) hold.legal }
+same-history end after xs hold same = record { trusted = hold.trusted; legal = subst (IsLegal is_frame) (sym same) hold.legal }
 
 last-holds : (alone : Bool) (seat : ℕ) (before after : List Operation) (xs : List Exchange) (rest : List ℕ) (left : Option (List ℕ)) (last : Last)
     → Hold 0 (last_history before xs) xs
@@ -60,7 +60,7 @@ last-holds alone seat before after xs rest left (session.request x) hold stands 
     let one = exchange-holds alone seat (last_need 0 xs) (last_history before xs) x stands.0 in
     record {
       trusted = trusted-more 0 xs x hold.trusted one.trusted;
-      legal = subst (IsLegal is_first_frame) (sym stands.2) one.legal;
+      legal = subst (IsLegal is_frame) (sym stands.2) one.legal;
     }
 last-holds alone seat before after xs rest left (session.refused e reply) hold stands = same-history _ after xs hold stands.3
 last-holds alone seat before after xs rest left session.cut hold stands = same-history _ after xs hold stands.1

@@ -2,10 +2,10 @@
 use Rattle.std.proofs.Common.{◌≡◌, refl, sym, ◌∙◌, ap, ℕ, nat_eq, List, Bool, true, false, Result, Ok, Err}
 use Rattle.std.proofs.lemmas.Bool.{false≢true}
 use Rattle.lf_base.specs.declared.memory.Memory.{Memory}
-use Rattle.lf_model.specs.declared.desk.CommitErr.{CommitErr}
-use Rattle.lf_model.specs.declared.desk.CommitErr.TheVariants as c
-use Rattle.lf_model.specs.declared.desk.RegisterErr.{RegisterErr}
-use Rattle.lf_model.specs.declared.desk.RegisterErr.TheVariants as r
+use Rattle.lf_desk.specs.declared.refusals.CommitErr.{CommitErr}
+use Rattle.lf_desk.specs.declared.refusals.CommitErr.TheVariants as c
+use Rattle.lf_desk.specs.declared.refusals.RegisterErr.{RegisterErr}
+use Rattle.lf_desk.specs.declared.refusals.RegisterErr.TheVariants as r
 use Rattle.lf_model.specs.declared.document.Doc.{Doc}
 use Rattle.lf_model.specs.declared.document.Doc.TheVariants as doc
 use Rattle.lf_session.specs.declared.request.Refusal.{Refusal}
@@ -39,7 +39,6 @@ registered-other name (Err (r.FrameTooLong size)) = record { unread = refl; sett
 registered-other name (Err r.NotJson) = record { unread = refl; settled = refl }
 registered-other name (Err (r.Fractional path)) = record { unread = refl; settled = refl }
 registered-other name (Err (r.Ld error)) = record { unread = refl; settled = refl }
-registered-other name (Err r.NotBuilt) = record { unread = refl; settled = refl }
 registered-other name (Err (r.TooManyFrames have would)) = record { unread = refl; settled = refl }
 registered-other name (Err (r.HistoryFull of have most)) = record { unread = refl; settled = refl }
 registered-other name (Err r.Memory) = record { unread = refl; settled = refl }
@@ -51,7 +50,6 @@ retired-other name (Err refused) = record { unread = refl; settled = refl }
 
 pub committed-other : (result : Result ℕ CommitErr) → IsOther (commit_reply result)
 committed-other (Ok version) = record { unread = refl; settled = refl }
-committed-other (Err c.NotBuilt) = record { unread = refl; settled = refl }
 committed-other (Err (c.HistoryFull of have most)) = record { unread = refl; settled = refl }
 committed-other (Err (c.TooManyQuads have would)) = record { unread = refl; settled = refl }
 committed-other (Err c.Memory) = record { unread = refl; settled = refl }

@@ -12,13 +12,12 @@ use Rattle.def_histories.specs.History.{commits}
 use Rattle.def_histories.specs.Legal.{IsLegal}
 use Rattle.def_histories.specs.Replay.{dataset_at}
 use Rattle.def_histories.proofs.StandingProofs.{published_was_committed}
-use Rattle.lf_desk.specs.Accepted.{is_first_frame}
-use Rattle.lf_desk.specs.Document.{document}
+use Rattle.lf_frames.specs.FrameTexts.{is_frame, document}
 use Rattle.lf_desk.specs.Looks.{Looks, Frames, is_new_enough}
 use Rattle.lf_session.specs.declared.request.Asked.{Asked}
 use Rattle.lf_session.specs.declared.request.Asked.TheVariants as asked
 use Rattle.lf_session.specs.Bodies.{pending_body}
-use Rattle.lf_session.specs.Replies.{Reply, plain, document_reply, look_reply, framed_reply, unknown_frame, out_of_memory, not_built, version_reply}
+use Rattle.lf_session.specs.Replies.{Reply, plain, document_reply, look_reply, framed_reply, unknown_frame, out_of_memory, bad_line_reply, version_reply}
 use Rattle.lf_session.specs.Answers.{IsAnswered, Commits, Refreshes}
 use Rattle.lf_session.specs.Headline.{IsOfOneVersion, IsStillPending, asks_for_document}
 use Rattle.lf_session.proofs.HeadlineReplies.{IsOther, not_200, not_202, refused-other, registered-other, retired-other, committed-other, document-settled}
@@ -79,14 +78,14 @@ still_pending history name need have needed looks = record {
   shows = λ i. plain 202 (pending_body (looks.2 i) (looks.3 i));
 }
 
-look-trust : (later : List Operation) (name : List ℕ) (need : ℕ) (result : Result Look Memory) → IsLegal is_first_frame later
+look-trust : (later : List Operation) (name : List ℕ) (need : ℕ) (result : Result Look Memory) → IsLegal is_frame later
     → Looks later name need result → Trust true later later name need (look_reply result)
 look-trust later name need (Ok (looked.Document doc version)) legal looks =
     document-trust later later name need (document_reply (arc_value doc) version) (document-settled (arc_value doc) version) record {
       frame = looks.0;
       version = version;
       is_live = looks.1;
-      committed = published_was_committed is_first_frame later name looks.0 version legal looks.1 looks.2;
+      committed = published_was_committed is_frame later name looks.0 version legal looks.1 looks.2;
       new_enough = looks.3;
       document = ap (λ (d : Doc). document_reply d version) looks.4;
     }
@@ -99,7 +98,7 @@ look-trust later name need (Err refused) legal looks =
 
 -- what stands at the name in the history seen, where the later one is the same
 seen-trust : (seen later : List Operation) (name : List ℕ) (need : ℕ) (result : Result Look Memory) (reply : Reply)
-    → IsLegal is_first_frame later → later ≡ seen → Looks seen name need result → reply ≡ look_reply result
+    → IsLegal is_frame later → later ≡ seen → Looks seen name need result → reply ≡ look_reply result
     → Trust true seen later name need reply
 seen-trust seen later name need result reply legal same looks is =
     subst (λ (h : List Operation). Trust true h later name need reply) same
@@ -133,7 +132,7 @@ framed-trust seen later name need (Err refused) low frames =
     bare-trust seen later name need out_of_memory (record { unread = refl; settled = refl }) refl refl
 
 refreshed-trust : (seen later : List Operation) (name : List ℕ) (need : ℕ) (result : Result Look Memory) (reply : Reply)
-    → IsLegal is_first_frame later → Looks seen name need result → Refreshes name need seen later result reply
+    → IsLegal is_frame later → Looks seen name need result → Refreshes name need seen later result reply
     → Trust true seen later name need reply
 refreshed-trust seen later name need (Ok (looked.Document doc version)) reply legal looks refreshed =
     seen-trust seen later name need (Ok (looked.Document doc version)) reply legal refreshed.0 looks refreshed.1
@@ -155,7 +154,7 @@ reply-trust seen later name need reply said is other =
     subst (Trust false seen later name need) (sym is) (other-trust seen later name need said other)
 
 pub answered-trust : (seat : ℕ) (name body : List ℕ) (need : ℕ) (wanted : Asked) (seen later made : List Operation) (reply : Reply)
-    → IsLegal is_first_frame later → IsAnswered seat name body need wanted seen later made reply
+    → IsLegal is_frame later → IsAnswered seat name body need wanted seen later made reply
     → Trust (asks_for_document wanted) seen later name need reply
 answered-trust seat name body need (asked.Refused why) seen later made reply legal by =
     reply-trust seen later name need reply _ by.2 (refused-other why)
@@ -171,7 +170,7 @@ answered-trust seat name body need asked.Commit seen later made reply legal by =
   where
     committed : Commits seat body seen made reply → Trust false seen later name need reply
     committed (inl done) = reply-trust seen later name need reply _ done.replies (committed-other done.result)
-    committed (inr (inl refused)) = reply-trust seen later name need reply not_built refused.1 (record { unread = refl; settled = refl })
+    committed (inr (inl bad)) = reply-trust seen later name need reply (bad_line_reply bad.kind bad.line) bad.replies (record { unread = refl; settled = refl })
     committed (inr (inr none)) = reply-trust seen later name need reply out_of_memory none.1 (record { unread = refl; settled = refl })
 answered-trust seat name body need asked.Version seen later made reply legal by =
     reply-trust seen later name need reply (version_reply (commits seen)) by.2 (record { unread = refl; settled = refl })

@@ -5,6 +5,7 @@ pub mod OneStep
 pub mod Registered
 pub mod Answered
 pub mod Refreshed
+pub mod ShortBodies
 pub mod Serving
 pub mod Streams
 pub mod HeadlineReplies

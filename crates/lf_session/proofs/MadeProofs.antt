@@ -2,10 +2,10 @@
 use Rattle.std.proofs.Common.{◌≡◌, refl, sym, ◌∙◌, ap, List, [], ℕ, length, Bool, true, false, cond, inl, inr, Result, Ok, Err}
 use Rattle.lf_base.specs.declared.memory.Memory.{Memory}
 use Rattle.lf_rdf.specs.declared.quad.Patch.{Patch}
-use Rattle.lf_model.specs.declared.desk.CommitErr.{CommitErr}
-use Rattle.lf_model.specs.declared.desk.CommitErr.TheVariants as c
-use Rattle.lf_model.specs.declared.desk.RegisterErr.{RegisterErr}
-use Rattle.lf_model.specs.declared.desk.RegisterErr.TheVariants as r
+use Rattle.lf_desk.specs.declared.refusals.CommitErr.{CommitErr}
+use Rattle.lf_desk.specs.declared.refusals.CommitErr.TheVariants as c
+use Rattle.lf_desk.specs.declared.refusals.RegisterErr.{RegisterErr}
+use Rattle.lf_desk.specs.declared.refusals.RegisterErr.TheVariants as r
 use Rattle.def_histories.specs.declared.operation.Operation.{Operation}
 use Rattle.lf_desk.specs.CommitAnswer.{committed_by}
 use Rattle.lf_desk.specs.RegisterAnswer.{registered_by}
@@ -13,7 +13,7 @@ use Rattle.lf_desk.specs.Calls.{retired_by}
 use Rattle.lf_http.specs.Reading.{name_of}
 use Rattle.lf_session.specs.declared.request.Asked.{Asked}
 use Rattle.lf_session.specs.declared.request.Asked.TheVariants as asked
-use Rattle.lf_session.specs.Replies.{Reply, out_of_memory, not_built, commit_reply, register_reply, retire_reply}
+use Rattle.lf_session.specs.Replies.{Reply, out_of_memory, bad_line_reply, commit_reply, register_reply, retire_reply}
 use Rattle.lf_session.specs.Requests.{asked_by}
 use Rattle.lf_session.specs.Answers.{IsAnswered, Commits}
 use Rattle.lf_session.specs.Exchanges.{needed}
@@ -37,7 +37,6 @@ registered seat name text (Err (r.FrameTooLong size)) = refl
 registered seat name text (Err r.NotJson) = refl
 registered seat name text (Err (r.Fractional path)) = refl
 registered seat name text (Err (r.Ld error)) = refl
-registered seat name text (Err r.NotBuilt) = refl
 registered seat name text (Err (r.TooManyFrames have would)) = refl
 registered seat name text (Err (r.HistoryFull of have most)) = refl
 registered seat name text (Err r.Memory) = refl
@@ -51,7 +50,6 @@ retired seat name (Err refused) = refl
 committed : (seat : ℕ) (patch : Patch) (result : Result ℕ CommitErr)
     → AsTold asked.Commit (committed_by seat patch result) (commit_reply result)
 committed seat patch (Ok version) = refl
-committed seat patch (Err c.NotBuilt) = refl
 committed seat patch (Err (c.HistoryFull of have most)) = refl
 committed seat patch (Err (c.TooManyQuads have would)) = refl
 committed seat patch (Err c.Memory) = refl
@@ -69,7 +67,7 @@ answered-told seat name body need asked.Commit seen later made reply by = of_com
   where
     of_commit : Commits seat body seen made reply → AsTold asked.Commit made reply
     of_commit (inl done) = as_told asked.Commit made _ reply _ done.makes done.replies (committed seat done.patch done.result)
-    of_commit (inr (inl refused)) = as_told asked.Commit made [] reply not_built refused.0 refused.1 refl
+    of_commit (inr (inl bad)) = as_told asked.Commit made [] reply (bad_line_reply bad.kind bad.line) bad.makes bad.replies refl
     of_commit (inr (inr none)) = as_told asked.Commit made [] reply out_of_memory none.0 none.1 refl
 answered-told seat name body need asked.Version seen later made reply by = ap length by.1
 

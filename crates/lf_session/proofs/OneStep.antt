@@ -3,7 +3,7 @@ use Rattle.std.proofs.Common.{◌≡◌, ℕ, Bool, List, [], sym, subst}
 use Rattle.std.proofs.lemmas.List.{append-nil}
 use Rattle.def_histories.specs.declared.operation.Operation.{Operation}
 use Rattle.def_histories.specs.Legal.{IsLegal}
-use Rattle.lf_desk.specs.Accepted.{is_first_frame}
+use Rattle.lf_frames.specs.FrameTexts.{is_frame}
 use Rattle.lf_desk.specs.Calls.{IsCall}
 use Rattle.lf_session.specs.declared.request.Asked.{Asked}
 use Rattle.lf_session.specs.Replies.{Reply}
@@ -12,7 +12,7 @@ use Rattle.lf_session.specs.Steps.{IsStep}
 use Rattle.lf_session.proofs.Extended.{extended-same}
 
 pub step-alone : (alone : Bool) (seat need : ℕ) (name body : List ℕ) (asked : Asked) (before : List Operation) (reply : Reply)
-    → IsLegal is_first_frame before → IsAnswered seat name body need asked before before [] reply
+    → IsLegal is_frame before → IsAnswered seat name body need asked before before [] reply
     → IsStep alone seat need name body asked before before reply
 step-alone alone seat need name body asked before reply legal answered = record {
   seen = before;

@@ -12,7 +12,7 @@ use Rattle.def_histories.specs.History.{commits, live}
 use Rattle.def_histories.specs.Legal.{IsLegal}
 use Rattle.def_histories.proofs.LegalProofs.{prefix_is_legal}
 use Rattle.lf_http.specs.Reading.{name_of}
-use Rattle.lf_desk.specs.Accepted.{is_first_frame}
+use Rattle.lf_frames.specs.FrameTexts.{is_frame}
 use Rattle.lf_desk.specs.Looks.{Looks, Frames}
 use Rattle.lf_desk.specs.Seats.{IsExtended}
 use Rattle.lf_session.specs.declared.request.Asked.{Asked}
@@ -59,7 +59,7 @@ look-refreshed alone seat seen later name need (Ok looked.Unknown) reply trust w
 look-refreshed alone seat seen later name need (Err refused) reply trust went is_live low looks by = inr (inr by.1)
 
 answered-refreshed : (alone : Bool) (seat : ℕ) (name body : List ℕ) (need : ℕ) (seen later made : List Operation) (reply : Reply)
-    → IsLegal is_first_frame later → IsExtended alone seat seen later → live seen name ≢ None → need ≤ commits seen
+    → IsLegal is_frame later → IsExtended alone seat seen later → live seen name ≢ None → need ≤ commits seen
     → IsAnswered seat name body need asked.GetNow seen later made reply → IsRefreshed later name need reply
 answered-refreshed alone seat name body need seen later made reply legal went is_live low by =
     look-refreshed alone seat seen later name need by.1.0 reply
@@ -68,5 +68,5 @@ answered-refreshed alone seat name body need seen later made reply legal went is
 pub refreshes_are_answered : RefreshesAreAnswered
 refreshes_are_answered alone seat need before x is wants is_live low =
     answered-refreshed alone seat (name_of x.sent.target) x.body (needed need x.head) x.seen x.later x.made x.reply
-    (prefix_is_legal is_first_frame x.later x.made is.legal) is.went is_live low
+    (prefix_is_legal is_frame x.later x.made is.legal) is.went is_live low
     (subst (λ (a : Asked). IsAnswered seat (name_of x.sent.target) x.body (needed need x.head) a x.seen x.later x.made x.reply) wants is.answered)

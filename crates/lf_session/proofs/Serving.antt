@@ -13,7 +13,7 @@ use Rattle.def_histories.specs.declared.operation.Operation.{Operation}
 use Rattle.lf_session.specs.declared.ended.Ended.{Ended}
 use Rattle.lf_session.specs.declared.ended.Ended.TheVariants as ended
 use Rattle.def_histories.specs.Legal.{IsLegal}
-use Rattle.lf_desk.specs.Accepted.{is_first_frame}
+use Rattle.lf_frames.specs.FrameTexts.{is_frame}
 use Rattle.lf_session.specs.Replies.{Reply, reply_bytes}
 use Rattle.lf_session.specs.Answers.{IsAnswered}
 use Rattle.lf_session.specs.Steps.{IsStep}
@@ -237,7 +237,7 @@ is_exchange alone seat need before after sent head name body reply is whole name
       whole = whole;
       came = step.came;
       went = step.went;
-      legal = subst (λ (w : List Operation). IsLegal is_first_frame w) step.follows step.legal;
+      legal = subst (λ (w : List Operation). IsLegal is_frame w) step.follows step.legal;
       answered = subst (λ (w : List ℕ). IsAnswered seat w body (needed need head) (asked_by head) step.seen step.later step.made reply) named step.answered;
     }
 

@@ -4,7 +4,7 @@ use Rattle.lf_io.specs.Bytes.{prepended, appended}
 use Rattle.lf_io.proofs.Told.{prepended_twice, prepended_nothing, appended_nothing, appended_twice}
 use Rattle.def_histories.specs.declared.operation.Operation.{Operation}
 use Rattle.def_histories.specs.Legal.{IsLegal}
-use Rattle.lf_desk.specs.Accepted.{is_first_frame}
+use Rattle.lf_frames.specs.FrameTexts.{is_frame}
 use Rattle.lf_session.specs.declared.ended.Ended.{Ended}
 use Rattle.lf_session.specs.declared.ended.Ended.TheVariants as ended
 use Rattle.lf_session.specs.Exchanges.{Exchange, IsExchange, IsChain, message_of, answer_of, history_of, messages, answers, last_history, last_need, need_of}
@@ -16,14 +16,14 @@ use Rattle.lf_session.specs.Served.{IsServed, GoesOn, Ends}
 -- what was read, sent and made so far, by requests that were answered
 pub record IsUnderWay (alone : Bool) (seat need : ℕ) (before now : List Operation) (left0 left held0 held : Option (List ℕ)) (pending : List ℕ) : Type 0 where
   pub xs : List Exchange
-  pub started : IsLegal is_first_frame before
+  pub started : IsLegal is_frame before
   pub chain : IsChain alone seat 0 before xs
   pub needs : need ≡ last_need 0 xs
   pub follows : now ≡ last_history before xs
   pub reads : left0 ≡ prepended (messages xs ++ pending) left
   pub writes : held ≡ appended held0 (answers xs)
 
-pub at_start : (alone : Bool) (seat : ℕ) (before : List Operation) (left held : Option (List ℕ)) → IsLegal is_first_frame before
+pub at_start : (alone : Bool) (seat : ℕ) (before : List Operation) (left held : Option (List ℕ)) → IsLegal is_frame before
     → IsUnderWay alone seat 0 before before left left held held []
 at_start alone seat before left held legal =
     record {
@@ -131,7 +131,7 @@ at_end alone seat need before now after left0 left1 left2 held0 held1 held2 pend
         }
 
 -- no buffers were had
-pub not_begun : (alone : Bool) (seat : ℕ) (before : List Operation) (left held : Option (List ℕ)) → IsLegal is_first_frame before
+pub not_begun : (alone : Bool) (seat : ℕ) (before : List Operation) (left held : Option (List ℕ)) → IsLegal is_frame before
     → IsServed alone seat before before record { left_before = left; left_after = left; held_before = held; held_after = held } ended.Memory
 not_begun alone seat before left held legal =
     record {

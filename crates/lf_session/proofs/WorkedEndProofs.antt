@@ -6,7 +6,7 @@ use Rattle.httparse.specs.Grammar.{RequestHead, IsRequestHead, ReadsRequest, IsF
 use Rattle.httparse.proofs.GrammarLemmas.{request_unique}
 use Rattle.lf_http.specs.declared.head.HeadErr.{HeadErr}
 use Rattle.lf_http.specs.Judge.{method_of, target_of, request_of, judged}
-use Rattle.lf_desk.specs.Accepted.{is_first_frame}
+use Rattle.lf_frames.specs.FrameTexts.{is_frame}
 use Rattle.lf_session.specs.ReplyCases.{replies_open}
 use Rattle.lf_session.specs.Exchanges.{IsExchange}
 use Rattle.lf_session.specs.Session.{IsFirstRefusal}
@@ -56,7 +56,7 @@ get-is = record {
   whole = refl;
   came = as_it_was [];
   went = as_it_was [];
-  legal = empty_is_legal is_first_frame;
+  legal = empty_is_legal is_frame;
   answered = (refl, refl, refl);
 }
 
@@ -70,7 +70,7 @@ patch-is = record {
   whole = refl;
   came = as_it_was [];
   went = as_it_was [];
-  legal = empty_is_legal is_first_frame;
+  legal = empty_is_legal is_frame;
   answered = (refl, refl, refl);
 }
 
@@ -91,7 +91,7 @@ worked_ends = record {
   no_host = record {
     rest = codes "GET /version HTTP/1.1\r\n\r\n";
     sent = _;
-    started = empty_is_legal is_first_frame;
+    started = empty_is_legal is_frame;
     chain = tt;
     read = refl;
     wrote = refl;
@@ -102,7 +102,7 @@ worked_ends = record {
   no_length = record {
     rest = codes "PUT /frames/a HTTP/1.1\r\nHost: x\r\n\r\n";
     sent = _;
-    started = empty_is_legal is_first_frame;
+    started = empty_is_legal is_frame;
     chain = tt;
     read = refl;
     wrote = refl;
@@ -113,7 +113,7 @@ worked_ends = record {
   cut_body = record {
     rest = codes "POST /patch HTTP/1.1\r\nHost: x\r\nContent-Length: 32\r\n\r\n<http://e/a>";
     sent = [];
-    started = empty_is_legal is_first_frame;
+    started = empty_is_legal is_frame;
     chain = tt;
     read = refl;
     wrote = refl;
@@ -140,7 +140,7 @@ worked_ends = record {
   closed = record {
     rest = codes "PATCH /version HTTP/1.1\r\nHost: x\r\nConnection: close\r\n\r\nGET /version HTTP/1.1\r\nHost: x\r\n\r\n";
     sent = _;
-    started = empty_is_legal is_first_frame;
+    started = empty_is_legal is_frame;
     chain = tt;
     read = refl;
     wrote = refl;
@@ -151,7 +151,7 @@ worked_ends = record {
   write_failed = record {
     rest = codes "GET /version HTTP/1.1\r\nHost: x\r\nConnection: close\r\n\r\n";
     sent = codes "HTTP/1.1 2";
-    started = empty_is_legal is_first_frame;
+    started = empty_is_legal is_frame;
     chain = tt;
     read = refl;
     wrote = refl;

@@ -1,16 +1,16 @@
 -- How a request is answered by the history that its seat has seen: what it makes, and the reply.
-use Rattle.std.specs.Prelude.{◌≡◌, ◌⊎◌, ◌≤◌, ◌<◌, List, [], ℕ, nat_lt, length, not, if◌then◌else◌, Option, Bool, Result, Ok, Err, IsUtf8, IsTrue}
-use Rattle.std.specs.List.{list_all}
+use Rattle.std.specs.Prelude.{◌≡◌, ◌⊎◌, ◌≤◌, ◌<◌, List, [], ℕ, nat_lt, length, not, if◌then◌else◌, Option, Bool, Result, Ok, Err, IsUtf8}
 use Rattle.lf_base.specs.declared.memory.Memory.{Memory}
 use Rattle.lf_rdf.specs.declared.quad.Patch.{Patch}
-use Rattle.lf_rdf.specs.declared.quad.Quad.{Quad}
-use Rattle.lf_model.specs.declared.desk.CommitErr.{CommitErr}
-use Rattle.lf_model.specs.declared.desk.RegisterErr.{RegisterErr}
-use Rattle.lf_model.specs.declared.desk.RegisterErr.TheVariants as r
+use Rattle.def_patch_texts.specs.declared.kind.LineKind.{LineKind}
+use Rattle.def_patch_texts.specs.PatchText.{IsPatchText}
+use Rattle.def_patch_texts.specs.BadLine.{IsBadLine}
+use Rattle.lf_desk.specs.declared.refusals.CommitErr.{CommitErr}
+use Rattle.lf_desk.specs.declared.refusals.RegisterErr.{RegisterErr}
+use Rattle.lf_desk.specs.declared.refusals.RegisterErr.TheVariants as r
 use Rattle.lf_model.specs.declared.desk.Look.{Look}
 use Rattle.lf_model.specs.declared.desk.Look.TheVariants as looked
 use Rattle.lf_model.specs.declared.desk.FramedNow.{FramedNow}
-use Rattle.lf_first.specs.First.{IsFirstText, quads_of}
 use Rattle.def_histories.specs.declared.operation.Operation.{Operation}
 use Rattle.def_histories.specs.History.{commits}
 use Rattle.def_histories.specs.Legal.{is_frame_name, most_frame_bytes}
@@ -20,7 +20,7 @@ use Rattle.lf_desk.specs.Looks.{Looks, Frames}
 use Rattle.lf_desk.specs.Calls.{Retires, retired_by}
 use Rattle.lf_session.specs.declared.request.Asked.{Asked}
 use Rattle.lf_session.specs.declared.request.Asked.TheVariants as asked
-use Rattle.lf_session.specs.Replies.{Reply, out_of_memory, not_built, version_reply, commit_reply, register_reply, retire_reply, look_reply, framed_reply}
+use Rattle.lf_session.specs.Replies.{Reply, out_of_memory, bad_line_reply, version_reply, commit_reply, register_reply, retire_reply, look_reply, framed_reply}
 use Rattle.lf_session.specs.Requests.{refused_reply}
 
 -- a frame's text that isn't UTF-8: its name and its length are tried first
@@ -28,7 +28,7 @@ abbrev pub no_text_answer : List ℕ → List ℕ → Result Bool RegisterErr
 no_text_answer name body =
     if not (is_frame_name name) then Err r.BadName
     else if nat_lt most_frame_bytes (length body) then Err (r.FrameTooLong (length body))
-    else Err r.NotBuilt
+    else Err r.NotJson
 
 -- a registration answers so
 abbrev pub Registers : List Operation → List ℕ → List ℕ → Result Bool RegisterErr → Type 0
@@ -36,10 +36,9 @@ Registers seen name body result =
     (IsUtf8 body × Answers result (register_answer seen name body))
     ⊎ ((IsUtf8 body → ⊥) × (result ≡ no_text_answer name body))
 
--- the body is a patch text of the first form, which adds these quads
+-- the body is a patch text, which states these lines
 pub record IsPatch (body : List ℕ) (patch : Patch) : Type 0 where
-  pub states : IsFirstText body (quads_of patch.lines)
-  pub adds : IsTrue (list_all (λ line. line.add) patch.lines)
+  pub states : IsPatchText body patch.lines
   pub sized : patch.bytes ≡ length body
 
 -- a patch is committed or refused
@@ -51,11 +50,19 @@ pub record IsCommitted (seat : ℕ) (body : List ℕ) (seen made : List Operatio
   pub makes : made ≡ committed_by seat patch result
   pub replies : reply ≡ commit_reply result
 
+-- a line of the body is the first bad one, and its kind and number are told
+pub record IsBadPatch (body : List ℕ) (made : List Operation) (reply : Reply) : Type 0 where
+  pub line : ℕ
+  pub kind : LineKind
+  pub bad : IsBadLine body line kind
+  pub makes : made ≡ []
+  pub replies : reply ≡ bad_line_reply kind line
+
 -- or its text is refused, or no memory is found for it
 abbrev pub Commits : ℕ → List ℕ → List Operation → List Operation → Reply → Type 0
 Commits seat body seen made reply =
     IsCommitted seat body seen made reply
-    ⊎ ((made ≡ []) × (reply ≡ not_built) × ((quads : List Quad) → IsFirstText body quads → ⊥))
+    ⊎ IsBadPatch body made reply
     ⊎ ((made ≡ []) × (reply ≡ out_of_memory))
 
 -- What is published is too old, and the newest version is asked for: it is framed where it is new enough.

@@ -1,10 +1,10 @@
 -- The bodies of replies other than documents: JSON texts in compact form (RFC 8259).
 use Rattle.std.specs.Prelude.{List, ℕ, ◌++◌, Option, Some, None, codes, decimal}
 use Rattle.def_printed.specs.JsonText.{json_string}
+use Rattle.def_patch_texts.specs.declared.kind.LineKind.{LineKind}
 use Rattle.lf_model.specs.declared.desk.Counted.{Counted}
-use Rattle.lf_model.specs.declared.desk.Counted.TheVariants as counted
 use Rattle.lf_model.specs.declared.document.Limit.{Limit}
-use Rattle.lf_model.specs.declared.document.Limit.TheVariants as limits
+use Rattle.lf_names.specs.Names.{kind_name, counted_name, limit_name, limit_number}
 
 -- an error without more; its text needs no escape
 unfoldable pub error_body : List ℕ → List ℕ
@@ -28,15 +28,14 @@ pending_body have need = codes "{\"have\":" ++ number_or_null have ++ codes ",\"
 unfoldable pub frame_too_long_body : ℕ → List ℕ
 frame_too_long_body size = codes "{\"error\":\"frame too long\",\"length\":" ++ decimal size ++ codes "}"
 
+-- the first bad line of a patch text, by its number
+unfoldable pub bad_line_body : LineKind → ℕ → List ℕ
+bad_line_body kind line = codes "{\"error\":\"" ++ kind_name kind ++ codes "\",\"line\":" ++ decimal line ++ codes "}"
+
 -- something would be more than may be
 unfoldable pub too_many_body : List ℕ → ℕ → ℕ → List ℕ
 too_many_body what have would =
     codes "{\"error\":\"too many " ++ what ++ codes "\",\"have\":" ++ decimal have ++ codes ",\"would\":" ++ decimal would ++ codes "}"
-
-unfoldable pub counted_name : Counted → List ℕ
-counted_name counted.Commits = codes "commits"
-counted_name counted.Registrations = codes "registrations"
-counted_name counted.Bytes = codes "bytes"
 
 unfoldable pub history_full_body : Counted → ℕ → ℕ → List ℕ
 history_full_body of have most =
@@ -46,18 +45,6 @@ history_full_body of have most =
 -- a path is any text, and is escaped
 unfoldable pub fractional_body : List ℕ → List ℕ
 fractional_body path = codes "{\"error\":\"fractional number\",\"path\":" ++ json_string path ++ codes "}"
-
-unfoldable pub limit_name : Limit → List ℕ
-limit_name limits.TreeItems = codes "tree items"
-limit_name limits.Depth = codes "depth"
-limit_name limits.DocumentItems = codes "document items"
-limit_name limits.DocumentBytes = codes "document bytes"
-
-unfoldable pub limit_number : Limit → ℕ
-limit_number limits.TreeItems = 65536
-limit_number limits.Depth = 256
-limit_number limits.DocumentItems = 262144
-limit_number limits.DocumentBytes = 33554432
 
 unfoldable pub limit_body : Limit → List ℕ
 limit_body limit =

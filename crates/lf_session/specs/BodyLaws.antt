@@ -2,12 +2,14 @@
 use Rattle.std.specs.Prelude.{◌≡◌, List, [], ◌∷◌, ℕ, nat_eq, nat_lt, Bool, ◌||◌, not, Option, IsTrue, codes, decimal}
 use Rattle.std.specs.List.{list_all}
 use Rattle.def_printed.specs.JsonText.{json_string, json_member, json_object}
+use Rattle.def_patch_texts.specs.declared.kind.LineKind.{LineKind}
 use Rattle.lf_model.specs.ErrorName.{name_of}
 use Rattle.lf_model.specs.declared.desk.Counted.{Counted}
 use Rattle.lf_model.specs.declared.document.Limit.{Limit}
 use Rattle.lf_model.specs.declared.error.LdError.{LdError}
 use Rattle.def_histories.specs.Legal.{is_frame_name}
-use Rattle.lf_session.specs.Bodies.{error_body, frame_body, version_body, number_or_null, pending_body, frame_too_long_body, too_many_body, counted_name, history_full_body, fractional_body, limit_name, limit_number, limit_body}
+use Rattle.lf_session.specs.Bodies.{error_body, frame_body, version_body, number_or_null, pending_body, bad_line_body, frame_too_long_body, too_many_body, history_full_body, fractional_body, limit_body}
+use Rattle.lf_names.specs.Names.{kind_name, counted_name, limit_name, limit_number}
 
 -- a byte that stands in a JSON string as it is
 abbrev pub is_unescaped : ℕ → Bool
@@ -33,6 +35,9 @@ pub record BodiesAreJson : Type 0 where
   pub too_long : (size : ℕ)
       → frame_too_long_body size
       ≡ json_object (text_member (codes "error") (codes "frame too long") ∷ number_member (codes "length") size ∷ [])
+  pub bad_line : (kind : LineKind) (line : ℕ)
+      → bad_line_body kind line
+      ≡ json_object (text_member (codes "error") (kind_name kind) ∷ number_member (codes "line") line ∷ [])
   pub quads : (have would : ℕ)
       → too_many_body (codes "quads") have would
       ≡ json_object (text_member (codes "error") (codes "too many quads") ∷ number_member (codes "have") have ∷ number_member (codes "would") would ∷ [])

@@ -6,7 +6,7 @@ use Rattle.lf_http.specs.Judge.{request_of, judged}
 use Rattle.lf_http.specs.Reading.{longest_head, most_lines, name_of}
 use Rattle.def_histories.specs.declared.operation.Operation.{Operation}
 use Rattle.def_histories.specs.Legal.{IsLegal}
-use Rattle.lf_desk.specs.Accepted.{is_first_frame}
+use Rattle.lf_frames.specs.FrameTexts.{is_frame}
 use Rattle.lf_desk.specs.Seats.{IsExtended}
 use Rattle.lf_session.specs.Replies.{Reply, reply_bytes}
 use Rattle.lf_session.specs.Requests.{asked_by}
@@ -55,7 +55,7 @@ pub record IsExchange (alone : Bool) (seat need : ℕ) (before : List Operation)
   pub whole : length x.body ≡ x.head.length
   pub came : IsExtended alone seat before x.seen
   pub went : IsExtended alone seat x.seen x.later
-  pub legal : IsLegal is_first_frame (history_of x)
+  pub legal : IsLegal is_frame (history_of x)
   pub answered : IsAnswered seat (name_of x.sent.target) x.body (needed need x.head) (asked_by x.head) x.seen x.later x.made x.reply
 
 -- one after another, where none asked to close

@@ -3,6 +3,7 @@
 use Rattle.std.specs.Prelude.{List, [], ◌∷◌, ◌++◌, ℕ, true, false, Some, None, Ok, codes}
 use Rattle.httparse.specs.Grammar.{RequestHead, Field, crlf}
 use Rattle.lf_rdf.specs.declared.term.Term.TheVariants.{Iri, Literal}
+use Rattle.lf_rdf.specs.declared.quad.Quad.{Quad}
 use Rattle.lf_rdf.specs.declared.quad.Patch.{Patch}
 use Rattle.lf_rdf.specs.Vocabulary.{xsd_string}
 use Rattle.lf_model.specs.declared.desk.FramedNow.{FramedNow}
@@ -15,7 +16,7 @@ use Rattle.lf_http.specs.declared.head.Target.TheVariants as target
 use Rattle.def_histories.specs.declared.operation.Operation.{Operation}
 use Rattle.def_histories.specs.declared.operation.Operation.TheVariants as entry
 use Rattle.def_histories.specs.Replay.{newest_dataset}
-use Rattle.lf_desk.specs.Document.{document}
+use Rattle.lf_frames.specs.FrameTexts.{document}
 use Rattle.lf_session.specs.declared.ended.Ended.TheVariants as ended
 use Rattle.lf_session.specs.Replies.{commit_reply, register_reply, look_reply, framed_reply}
 use Rattle.lf_session.specs.Exchanges.{Exchange}
@@ -38,19 +39,16 @@ first_output =
     ++ codes "HTTP/1.1 200 OK\r\nContent-Type: application/ld+json\r\nLd-Version: 1\r\nContent-Length: 37\r\n\r\n{\"@id\":\"http://e/a\",\"http://e/p\":\"x\"}"
 
 -- what was made
-abbrev pub patch : Patch
-patch = record {
-  lines = record {
-    add = true;
-    quad = record {
-      subject = Iri (codes "http://e/a");
-      predicate = Iri (codes "http://e/p");
-      object = Literal (codes "x") xsd_string None;
-      graph = None;
-    };
-  } ∷ [];
-  bytes = 32;
+abbrev pub quad : Quad
+quad = record {
+  subject = Iri (codes "http://e/a");
+  predicate = Iri (codes "http://e/p");
+  object = Literal (codes "x") xsd_string None;
+  graph = None;
 }
+
+abbrev pub patch : Patch
+patch = record { lines = record { add = true; quad = quad } ∷ []; bytes = 32 }
 
 abbrev pub one_commit : List Operation
 one_commit = entry.Commit 0 patch ∷ []

@@ -7,9 +7,8 @@ use Rattle.def_histories.specs.History.{commits, live}
 use Rattle.def_histories.specs.Legal.{IsLegal}
 use Rattle.def_histories.specs.Replay.{dataset_at}
 use Rattle.lf_http.specs.Reading.{name_of}
-use Rattle.lf_desk.specs.Accepted.{is_first_frame}
+use Rattle.lf_frames.specs.FrameTexts.{is_frame, document}
 use Rattle.lf_desk.specs.Seats.{own, is_made_by}
-use Rattle.lf_desk.specs.Document.{document}
 use Rattle.lf_desk.specs.Looks.{is_new_enough}
 use Rattle.lf_session.specs.declared.ended.Ended.{Ended}
 use Rattle.lf_session.specs.declared.request.Asked.{Asked}
@@ -77,7 +76,7 @@ pub record IsHeadline (seat : ℕ) (before after : List Operation) (xs : List Ex
   pub trusted : AreTrusted 0 xs
   pub once : own seat after ≡ own seat before ++ own seat (all_made xs)
   pub made : IsTrue (list_all (is_made_by seat) (all_made xs))
-  pub legal : IsLegal is_first_frame after
+  pub legal : IsLegal is_frame after
 
 -- so it is of each stream that is served
 abbrev pub SessionsHold : Type 0

@@ -2,11 +2,12 @@
 use Rattle.std.specs.Prelude.{List, [], ◌++◌, ℕ, Bool, true, false, length, Option, Some, None, Result, Ok, Err, codes}
 use Rattle.std.specs.Arc.{arc_value}
 use Rattle.lf_base.specs.declared.memory.Memory.{Memory}
+use Rattle.def_patch_texts.specs.declared.kind.LineKind.{LineKind}
 use Rattle.lf_model.specs.ErrorName.{name_of}
-use Rattle.lf_model.specs.declared.desk.CommitErr.{CommitErr}
-use Rattle.lf_model.specs.declared.desk.CommitErr.TheVariants as c
-use Rattle.lf_model.specs.declared.desk.RegisterErr.{RegisterErr}
-use Rattle.lf_model.specs.declared.desk.RegisterErr.TheVariants as r
+use Rattle.lf_desk.specs.declared.refusals.CommitErr.{CommitErr}
+use Rattle.lf_desk.specs.declared.refusals.CommitErr.TheVariants as c
+use Rattle.lf_desk.specs.declared.refusals.RegisterErr.{RegisterErr}
+use Rattle.lf_desk.specs.declared.refusals.RegisterErr.TheVariants as r
 use Rattle.lf_model.specs.declared.desk.Look.{Look}
 use Rattle.lf_model.specs.declared.desk.Look.TheVariants as looked
 use Rattle.lf_model.specs.declared.desk.FramedNow.{FramedNow}
@@ -19,7 +20,7 @@ use Rattle.lf_http.specs.declared.head.Method.TheVariants as method
 use Rattle.lf_http.specs.declared.reply.Allow.{Allow}
 use Rattle.lf_http.specs.declared.reply.Allow.TheVariants.{NoAllow}
 use Rattle.lf_http.specs.Reply.{reply_text}
-use Rattle.lf_session.specs.Bodies.{error_body, frame_body, version_body, pending_body, frame_too_long_body, too_many_body, history_full_body, fractional_body, limit_body}
+use Rattle.lf_session.specs.Bodies.{error_body, frame_body, version_body, pending_body, bad_line_body, frame_too_long_body, too_many_body, history_full_body, fractional_body, limit_body}
 
 -- what a reply says, apart from whether the stream ends after it
 pub record Reply : Type 0 where
@@ -40,9 +41,6 @@ versioned status version body = record { status = status; ld_json = false; allow
 abbrev pub out_of_memory : Reply
 out_of_memory = plain 503 (error_body (codes "out of memory"))
 
-abbrev pub not_built : Reply
-not_built = plain 501 (error_body (codes "not built"))
-
 abbrev pub unknown_frame : Reply
 unknown_frame = plain 404 (error_body (codes "unknown frame"))
 
@@ -58,10 +56,13 @@ version_reply version = versioned 200 version (version_body version)
 
 abbrev pub commit_reply : Result ℕ CommitErr → Reply
 commit_reply (Ok version) = version_reply version
-commit_reply (Err c.NotBuilt) = not_built
 commit_reply (Err (c.HistoryFull of have most)) = plain 507 (history_full_body of have most)
 commit_reply (Err (c.TooManyQuads have would)) = plain 413 (too_many_body (codes "quads") have would)
 commit_reply (Err c.Memory) = out_of_memory
+
+-- a patch text with a bad line
+abbrev pub bad_line_reply : LineKind → ℕ → Reply
+bad_line_reply kind line = plain 400 (bad_line_body kind line)
 
 abbrev pub register_reply : List ℕ → Result Bool RegisterErr → Reply
 register_reply name (Ok true) = plain 201 (frame_body name)
@@ -71,7 +72,6 @@ register_reply name (Err (r.FrameTooLong size)) = plain 413 (frame_too_long_body
 register_reply name (Err r.NotJson) = plain 400 (error_body (codes "not JSON"))
 register_reply name (Err (r.Fractional path)) = plain 400 (fractional_body path)
 register_reply name (Err (r.Ld error)) = plain 422 (error_body (name_of error))
-register_reply name (Err r.NotBuilt) = not_built
 register_reply name (Err (r.TooManyFrames have would)) = plain 413 (too_many_body (codes "frames") have would)
 register_reply name (Err (r.HistoryFull of have most)) = plain 507 (history_full_body of have most)
 register_reply name (Err r.Memory) = out_of_memory

@@ -3,8 +3,8 @@ use Rattle.std.specs.Prelude.{◌≡◌, refl, List, ℕ, true, false, Option, S
 use Rattle.std.specs.Fmt.{digits}
 use Rattle.lf_model.specs.declared.error.LdError.TheVariants.{InvalidFrame, IriConfusedWithPrefix}
 use Rattle.lf_model.specs.declared.desk.Counted.TheVariants as counted
-use Rattle.lf_model.specs.declared.desk.CommitErr.TheVariants as c
-use Rattle.lf_model.specs.declared.desk.RegisterErr.TheVariants as r
+use Rattle.lf_desk.specs.declared.refusals.CommitErr.TheVariants as c
+use Rattle.lf_desk.specs.declared.refusals.RegisterErr.TheVariants as r
 use Rattle.lf_model.specs.declared.desk.Look.TheVariants as looked
 use Rattle.lf_model.specs.declared.document.Doc.TheVariants as doc
 use Rattle.lf_model.specs.declared.document.Limit.TheVariants as limits
@@ -14,13 +14,14 @@ use Rattle.lf_http.specs.declared.head.Method.TheVariants as method
 use Rattle.lf_http.specs.declared.reply.Allow.TheVariants as allow
 use Rattle.lf_http.specs.Reply.{reason, crlf, status_text, media_text, allow_text, version_line, close_text, length_text}
 use Rattle.lf_session.specs.declared.request.Refusal.TheVariants as why
-use Rattle.lf_session.specs.Bodies.{error_body, frame_body, version_body, pending_body, frame_too_long_body, too_many_body, counted_name, history_full_body, fractional_body, limit_name, limit_number, limit_body}
+use Rattle.lf_session.specs.Bodies.{error_body, frame_body, version_body, pending_body, bad_line_body, frame_too_long_body, too_many_body, history_full_body, fractional_body, limit_body}
+use Rattle.lf_names.specs.Names.{kind_name, counted_name, limit_name, limit_number}
 use Rattle.lf_session.specs.Replies.{Reply, plain, commit_reply, register_reply, retire_reply, look_reply, framed_reply, document_reply, reply_bytes, refusal, refusal_bytes}
 use Rattle.lf_session.specs.Requests.{refused_reply}
 
 -- the texts of replies, which compute here
 unfoldable pub replies_open : Unit {0}
-unfolding reason crlf status_text media_text allow_text version_line close_text length_text digits error_body frame_body version_body pending_body frame_too_long_body too_many_body counted_name history_full_body fractional_body limit_name limit_number limit_body
+unfolding reason crlf status_text media_text allow_text version_line close_text length_text digits error_body frame_body version_body pending_body bad_line_body kind_name frame_too_long_body too_many_body counted_name history_full_body fractional_body limit_name limit_number limit_body
 replies_open = tt
 
 abbrev pub a : List ℕ

@@ -10,7 +10,7 @@ use Rattle.lf_http.specs.Judge.{request_of, judged}
 use Rattle.lf_http.specs.Reading.{LacksHead, IsRefused, longest_head, most_lines}
 use Rattle.def_histories.specs.declared.operation.Operation.{Operation}
 use Rattle.def_histories.specs.Legal.{IsLegal}
-use Rattle.lf_desk.specs.Accepted.{is_first_frame}
+use Rattle.lf_frames.specs.FrameTexts.{is_frame}
 use Rattle.lf_session.specs.declared.ended.Ended.{Ended}
 use Rattle.lf_session.specs.declared.ended.Ended.TheVariants as ended
 use Rattle.lf_session.specs.Replies.{Reply, out_of_memory, reply_bytes, refusal, refusal_bytes}
@@ -97,7 +97,7 @@ pub record IsSession (alone : Bool) (seat : ℕ) (bytes : List ℕ) (left : Opti
     (written : List ℕ) (end : Ended) (xs : List Exchange) (last : Last) : Type 0 where
   pub rest : List ℕ
   pub sent : List ℕ
-  pub started : IsLegal is_first_frame before
+  pub started : IsLegal is_frame before
   pub chain : IsChain alone seat 0 before xs
   pub read : bytes ≡ messages xs ++ rest
   pub wrote : written ≡ answers xs ++ sent

@@ -2,7 +2,7 @@
 use Rattle.std.specs.Prelude.{◌≡◌, List, ◌++◌, ℕ, Bool}
 use Rattle.def_histories.specs.declared.operation.Operation.{Operation}
 use Rattle.def_histories.specs.Legal.{IsLegal}
-use Rattle.lf_desk.specs.Accepted.{is_first_frame}
+use Rattle.lf_frames.specs.FrameTexts.{is_frame}
 use Rattle.lf_desk.specs.Seats.{IsExtended}
 use Rattle.lf_session.specs.declared.request.Asked.{Asked}
 use Rattle.lf_session.specs.Replies.{Reply}
@@ -16,5 +16,5 @@ pub record IsStep (alone : Bool) (seat need : ℕ) (name body : List ℕ) (asked
   pub came : IsExtended alone seat before seen
   pub went : IsExtended alone seat seen later
   pub follows : after ≡ later ++ made
-  pub legal : IsLegal is_first_frame after
+  pub legal : IsLegal is_frame after
   pub answered : IsAnswered seat name body need asked seen later made reply

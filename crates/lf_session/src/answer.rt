@@ -1,4 +1,5 @@
-ghost use Rattle.std.specs.Prelude.{◌≡◌, [], List, ℕ, Bool, IsTrue, IsUtf8, Ok};
+//! Requests answered by a desk, one function a request.
+ghost use Rattle.std.specs.Prelude.{◌≡◌, ◌≤◌, [], List, ℕ, Bool, IsTrue, IsUtf8, Ok, length};
 ghost use Rattle.lf_http.specs.Reply.{is_named};
 ghost use Rattle.lf_model.specs.declared.desk.Look.TheVariants.{Pending};
 ghost use Rattle.def_histories.specs.declared.operation.Operation.{Operation};
@@ -9,17 +10,17 @@ ghost use Rattle.lf_session.specs.Shown.{shown};
 ghost use Rattle.lf_session.specs.Steps.{IsStep};
 ghost use Rattle.lf_session.specs.declared.request.Asked.TheVariants as asks;
 
-use crate::long::{frame_text, refused_bytes, register_failed, registered, retired};
+use crate::registering::{refused_bytes, register_failed, registered, retired};
 use crate::reply::{
-    Reply, commit_reply, document_reply, framed_reply, look_reply, not_built, out_of_memory,
+    Reply, bad_line, commit_reply, document_reply, framed_reply, look_reply, out_of_memory,
     pending, refused_reply, unknown_frame, version_reply,
 };
 use crate::request::Asked;
+use crate::texts::frame_text;
 use lf_base::{Memory, Text};
 use lf_desk::Desk;
-use lf_first::FirstErr;
 use lf_model::Look;
-use lf_nquads::read_first;
+use lf_nquads::{LineErr, read_patch};
 use lf_rdf::Patch;
 use std::alloc::Global;
 
@@ -149,20 +150,21 @@ fn commit<D: Desk>(alloc: Global, desk: &mut D, patch: Patch) -> Reply
 }
 
 fn answer_commit<D: Desk>(alloc: Global, desk: &mut D, body: &[u8]) -> Reply
+    requires short { length body.now ≤ 67108864 }
     ensures step { (need : ℕ) (name : List ℕ) → IsStep (D.alone desk.old) (D.seat desk.old) need name body.now asks.Commit
         (D.history desk.old) (D.history desk.new) (shown result) }
     ensures same_seat { D.seat desk.new ≡ D.seat desk.old }
     ensures same_alone { D.alone desk.new ≡ D.alone desk.old }
     ensures named { IsTrue (is_named result.status) }
 {
-    match read_first(alloc, body) {
+    match read_patch(alloc, body) {
         Ok(patch) => commit(alloc, desk, patch),
-        Err(FirstErr::NotBuilt) => not_built(),
-        Err(FirstErr::Memory) => out_of_memory(),
+        Err(LineErr::Bad { line, kind }) => bad_line(kind, line),
+        Err(LineErr::Memory) => out_of_memory(),
     }
 }
 
-/// Answers a request by the desk.
+/// Answers a request by the desk. Its body has at most 67,108,864 bytes.
 pub fn answer<D: Desk>(
     alloc: Global,
     desk: &mut D,
@@ -171,6 +173,7 @@ pub fn answer<D: Desk>(
     body: &[u8],
     need: u64,
 ) -> Reply
+    requires short { length body.now ≤ 67108864 }
     ensures step { IsStep (D.alone desk.old) (D.seat desk.old) need name.now body.now asked (D.history desk.old) (D.history desk.new)
         (shown result) }
     ensures same_seat { D.seat desk.new ≡ D.seat desk.old }

@@ -1,10 +1,12 @@
 //! Bodies of replies that take no memory, as JSON texts in compact form (RFC 8259).
 ghost use Rattle.std.specs.Prelude.{◌≡◌, ◌+◌, ◌≤◌, ◌++◌, [], length, codes, decimal};
-ghost use Rattle.lf_session.specs.Bodies.{error_body, frame_body, version_body, number_or_null, pending_body, frame_too_long_body, too_many_body, counted_name, history_full_body, limit_name, limit_number, limit_body};
+ghost use Rattle.lf_session.specs.Bodies.{error_body, frame_body, version_body, number_or_null, pending_body, bad_line_body, frame_too_long_body, too_many_body, history_full_body, limit_body};
 
 use arrayvec::ArrayVec;
+use def_patch_texts::LineKind;
 use itoa::Buffer;
 use lf_model::{Counted, Limit};
+use lf_names::{counted_name, kind_name, limit_name, limit_number};
 
 /// The bytes of a short body.
 pub type ShortBody = ArrayVec<u8, 320>;
@@ -99,6 +101,19 @@ pub fn pending_body(have: Option<u64>, need: u64) -> ShortBody
     body
 }
 
+/// The first bad line of a patch text, by its number.
+#[tactic(auto, unfolding(crate::specs::Bodies::bad_line_body))]
+pub fn bad_line_body(kind: LineKind, line: u64) -> ShortBody
+    ensures { result.items ≡ bad_line_body kind line }
+{
+    let mut body = begin(b"{\"error\":\"");
+    put(&mut body, kind_name(kind).as_bytes());
+    put(&mut body, b"\",\"line\":");
+    put_number(&mut body, line);
+    put(&mut body, b"}");
+    body
+}
+
 /// A frame's text is too long.
 #[tactic(auto, unfolding(crate::specs::Bodies::frame_too_long_body))]
 pub fn frame_too_long_body(size: u64) -> ShortBody
@@ -126,18 +141,6 @@ pub fn too_many_body(what: &[u8], have: u64, would: u64) -> ShortBody
     body
 }
 
-#[tactic(auto, unfolding(crate::specs::Bodies::counted_name))]
-fn counted_name(of: Counted) -> &'static [u8]
-    ensures name { result.now ≡ counted_name of }
-    ensures short { length result.now ≤ 20 }
-{
-    match of {
-        Counted::Commits => b"commits",
-        Counted::Registrations => b"registrations",
-        Counted::Bytes => b"bytes",
-    }
-}
-
 /// A limit of the history is met.
 #[tactic(auto, unfolding(crate::specs::Bodies::history_full_body))]
 pub fn history_full_body(of: Counted, have: u64, most: u64) -> ShortBody
@@ -148,34 +151,9 @@ pub fn history_full_body(of: Counted, have: u64, most: u64) -> ShortBody
     put(&mut body, b",\"limit\":");
     put_number(&mut body, most);
     put(&mut body, b",\"of\":\"");
-    put(&mut body, counted_name(of));
+    put(&mut body, counted_name(of).as_bytes());
     put(&mut body, b"\"}");
     body
-}
-
-#[tactic(auto, unfolding(crate::specs::Bodies::limit_name))]
-fn limit_name(limit: Limit) -> &'static [u8]
-    ensures name { result.now ≡ limit_name limit }
-    ensures short { length result.now ≤ 20 }
-{
-    match limit {
-        Limit::TreeItems => b"tree items",
-        Limit::Depth => b"depth",
-        Limit::DocumentItems => b"document items",
-        Limit::DocumentBytes => b"document bytes",
-    }
-}
-
-#[tactic(auto, unfolding(crate::specs::Bodies::limit_number))]
-fn limit_number(limit: Limit) -> u64
-    ensures { result ≡ limit_number limit }
-{
-    match limit {
-        Limit::TreeItems => 65_536,
-        Limit::Depth => 256,
-        Limit::DocumentItems => 262_144,
-        Limit::DocumentBytes => 33_554_432,
-    }
 }
 
 /// A document passes a limit.
@@ -184,7 +162,7 @@ pub fn limit_body(limit: Limit) -> ShortBody
     ensures { result.items ≡ limit_body limit }
 {
     let mut body = begin(b"{\"error\":\"document limit\",\"limit\":\"");
-    put(&mut body, limit_name(limit));
+    put(&mut body, limit_name(limit).as_bytes());
     put(&mut body, b"\",\"number\":");
     put_number(&mut body, limit_number(limit));
     put(&mut body, b"}");

@@ -1,3 +1,4 @@
+//! How a stream ends.
 /// How a stream ended.
 #[derive(Clone, Copy, Debug, PartialEq, Eq)]
 pub enum Ended {

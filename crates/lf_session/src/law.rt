@@ -1,3 +1,4 @@
+//! What holds of all sessions.
 ghost use Rattle.lf_session.specs.BodyLaws.{BodiesAreJson};
 ghost use Rattle.lf_session.specs.FirstSession.{FirstSession};
 ghost use Rattle.lf_session.specs.Headline.{SessionsHold};

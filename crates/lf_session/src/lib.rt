@@ -5,13 +5,14 @@ mod answer;
 mod bodies;
 mod ended;
 mod law;
-mod long;
+mod registering;
 mod reply;
 mod request;
 mod send;
 mod serve;
 #[cfg(test)]
 mod tests;
+mod texts;
 
 pub use ended::Ended;
 pub use law::{

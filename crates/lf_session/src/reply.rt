@@ -1,21 +1,25 @@
+//! What a request is answered (RFC 9110, section 15), from what the desk found.
 ghost use Rattle.std.specs.Prelude.{◌≡◌, ◌≤◌, length, IsTrue, IfSome, codes};
 ghost use Rattle.std.specs.Option.{option_map};
 ghost use Rattle.std.specs.Arc.{arc_value};
 ghost use Rattle.lf_http.specs.Reply.{is_named};
 ghost use Rattle.lf_model.specs.ErrorName.{name_of};
 ghost use Rattle.lf_session.specs.Bodies.{error_body, history_full_body, limit_body, pending_body, too_many_body};
-ghost use Rattle.lf_session.specs.Replies.{plain, versioned, out_of_memory, not_built, unknown_frame, document_reply, version_reply, commit_reply, look_reply, framed_reply, refusal};
+ghost use Rattle.lf_session.specs.Replies.{plain, versioned, out_of_memory, bad_line_reply, unknown_frame, document_reply, version_reply, commit_reply, look_reply, framed_reply, refusal};
 ghost use Rattle.lf_session.specs.Requests.{refused_reply};
 ghost use Rattle.lf_session.specs.Shown.{shown, body_of};
 ghost use Rattle.lf_session.specs.declared.request.Refusal.TheVariants as refused;
 
 use crate::bodies::{
-    ShortBody, error_body, history_full_body, limit_body, pending_body, too_many_body, version_body,
+    ShortBody, bad_line_body, error_body, history_full_body, limit_body, pending_body,
+    too_many_body, version_body,
 };
 use crate::request::Refusal;
+use def_patch_texts::LineKind;
 use lf_base::{Memory, Text};
+use lf_desk::CommitErr;
 use lf_http::{Allow, HeadErr};
-use lf_model::{CommitErr, Counted, Doc, FramedNow, LdError, Limit, Look};
+use lf_model::{Counted, Doc, FramedNow, LdError, Limit, Look};
 use std::sync::Arc;
 
 /// The body of a reply.
@@ -94,15 +98,6 @@ pub fn out_of_memory() -> Reply
     ensures named { IsTrue (is_named result.status) }
 {
     plain(503, error_body(b"out of memory"))
-}
-
-/// A frame or a patch of a form that can't be used so far.
-#[tactic(auto, unfolding(lf_http::specs::Reply::reason))]
-pub fn not_built() -> Reply
-    ensures shown { shown result ≡ not_built }
-    ensures named { IsTrue (is_named result.status) }
-{
-    plain(501, error_body(b"not built"))
 }
 
 /// No frame has the name.
@@ -237,6 +232,15 @@ fn too_many_quads(have: u64, would: u64) -> Reply
     plain(413, too_many_body(b"quads", have, would))
 }
 
+/// The first bad line of a patch text.
+#[tactic(auto, unfolding(lf_http::specs::Reply::reason))]
+pub fn bad_line(kind: LineKind, line: u64) -> Reply
+    ensures shown { shown result ≡ bad_line_reply kind line }
+    ensures named { IsTrue (is_named result.status) }
+{
+    plain(400, bad_line_body(kind, line))
+}
+
 /// The version that a commit made, or why it was refused.
 pub fn commit_reply(done: Result<u64, CommitErr>) -> Reply
     ensures shown { shown result ≡ commit_reply done }
@@ -244,7 +248,6 @@ pub fn commit_reply(done: Result<u64, CommitErr>) -> Reply
 {
     match done {
         Ok(version) => version_reply(version),
-        Err(CommitErr::NotBuilt) => not_built(),
         Err(CommitErr::HistoryFull { of, have, limit }) => history_full(of, have, limit),
         Err(CommitErr::TooManyQuads { have, would }) => too_many_quads(have, would),
         Err(CommitErr::Memory) => out_of_memory(),
@@ -265,9 +268,9 @@ fn not_allowed(allow: Allow) -> Reply
     }
 }
 
-// A request that asks for nothing.
+/// A request that is refused by its form, in words.
 #[tactic(auto, unfolding(lf_http::specs::Reply::reason))]
-fn bad_request(text: &[u8]) -> Reply
+pub fn bad_request(text: &[u8]) -> Reply
     requires { length text.now ≤ 64 }
     ensures shown { shown result ≡ plain 400 (error_body text.now) }
     ensures named { IsTrue (is_named result.status) }

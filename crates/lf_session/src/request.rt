@@ -1,3 +1,4 @@
+//! What an accepted head asks for.
 ghost use Rattle.std.specs.Prelude.{◌≡◌};
 ghost use Rattle.lf_session.specs.Requests.{asked_by, at_target, at_frame, at_patch, at_version, checked, with_lines};
 

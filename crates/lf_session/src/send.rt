@@ -1,3 +1,4 @@
+//! Replies sent.
 ghost use Rattle.std.specs.Prelude.{◌≡◌, IsTrue, OnOk, OnErr};
 ghost use Rattle.lf_io.specs.Bytes.{appended, AddsPart};
 ghost use Rattle.lf_io.specs.Faults.{count_after};

@@ -1,4 +1,5 @@
-ghost use Rattle.std.specs.Prelude.{◌≡◌, ◌<◌, ◌≤◌, ℕ, IsTrue, List, Option, Err, Some, None};
+//! One stream served, request by request.
+ghost use Rattle.std.specs.Prelude.{◌≡◌, ◌<◌, ◌≤◌, ℕ, length, IsTrue, List, Option, Err, Some, None};
 ghost use Rattle.lf_http.specs.Reading.{to_come, count_after_head};
 ghost use Rattle.lf_http.specs.Reply.{is_named};
 ghost use Rattle.lf_http.specs.declared.head.Head.{Head};
@@ -96,6 +97,7 @@ fn reply<D: Desk, K: Sink>(
     head: &Head,
     need: &mut u64,
 ) -> Option<Ended>
+    requires short { length buffers.old.body ≤ 67108864 }
     ensures replies { Replies (D.alone desk.old) (D.seat desk.old) need.old need.new head.entry.now buffers.old.name buffers.old.body
         (D.history desk.old) (D.history desk.new) (K.held output.old) (K.held output.new) result }
     ensures same_seat { D.seat desk.new ≡ D.seat desk.old }

@@ -1,8 +1,9 @@
 use crate::bodies::{
-    error_body, frame_too_long_body, history_full_body, limit_body, pending_body, too_many_body,
-    version_body,
+    bad_line_body, error_body, frame_too_long_body, history_full_body, limit_body, pending_body,
+    too_many_body, version_body,
 };
-use crate::long::{fractional_text, frame_text};
+use crate::texts::{fractional_text, frame_text};
+use def_patch_texts::LineKind;
 use lf_base::Text;
 use lf_model::{Counted, Limit};
 use std::test::Fail;
@@ -26,6 +27,10 @@ fn bodies_are_json_texts(rt: HostRuntime) -> Result<(), Fail> {
     assert_eq!(rt;
         frame_too_long_body(65_537).as_slice(),
         b"{\"error\":\"frame too long\",\"length\":65537}".as_slice()
+    );
+    assert_eq!(rt;
+        bad_line_body(LineKind::RelativeIri, 3).as_slice(),
+        b"{\"error\":\"relative IRI\",\"line\":3}".as_slice()
     );
     assert_eq!(rt;
         too_many_body(b"frames", 16, 17).as_slice(),

@@ -1,4 +1,6 @@
-use Rattle.std.proofs.Common.{rules, ◌∙◌, ◌++◌}
+use Rattle.std.proofs.Common.{rules, ◌≡◌, ◌≤◌, sym, subst, ◌∙◌, ◌++◌, ℕ, length}
+use Rattle.lf_http.specs.Judge.{request_of}
+use Rattle.lf_session.proofs.ShortBodies.{accepted_short}
 use Rattle.lf_session.proofs.Serving.{ends_refused, ends_cut, ends_faulted, ends_starved, serves_request}
 use Rattle.lf_session.proofs.serve.serve_next.Goals as goal
 
@@ -55,3 +57,9 @@ returns-clause-serves g c =
     (search rules) (c.read_body.ensures.name ∙ head.4) head.2
     (search rules)
     c.reply.ensures.replies
+
+pub reply-requires : goal.reply-requires
+reply-requires g c =
+    let head = rw c.in-Ok-Some.field-0-is at c.in-Ok-Some.ensures.head in
+    let whole : length c.read_body.new.buffers.body ≡ c.in-Ok-Some.head.length = search rules in
+    record { short = subst (λ (n : ℕ). n ≤ 67108864) (sym whole) (accepted_short (request_of head.0) c.in-Ok-Some.head head.3) }

@@ -1,69 +1,23 @@
-//! Replies whose bodies take memory, and the replies to a registration.
-ghost use Rattle.std.specs.Prelude.{◌≡◌, ◌≤◌, ◌⊎◌, [], List, ℕ, length, IsTrue, IfOk, OnOk, codes, Ok, Err};
-ghost use Rattle.json.specs.Print.{print};
+//! The replies to a registration and to a retirement.
+ghost use Rattle.std.specs.Prelude.{◌≡◌, ◌≤◌, ◌⊎◌, List, ℕ, length, IsTrue, IfOk, codes, Ok, Err};
 ghost use Rattle.lf_http.specs.Reply.{is_named};
 ghost use Rattle.lf_model.specs.ErrorName.{name_of};
 ghost use Rattle.lf_session.specs.Bodies.{error_body, frame_body, frame_too_long_body, too_many_body, fractional_body};
 ghost use Rattle.lf_session.specs.Replies.{plain, out_of_memory, register_reply};
 ghost use Rattle.lf_session.specs.Answers.{no_text_answer};
 ghost use Rattle.lf_session.specs.Shown.{shown};
-ghost use Rattle.lf_session.specs.Tokens.{fractional_tokens};
 
 use crate::bodies::{error_body, frame_body, frame_too_long_body, too_many_body};
-use crate::reply::{Body, Reply, history_full, not_built, out_of_memory, plain};
-use json::Writer;
+use crate::reply::{Body, Reply, bad_request, history_full, out_of_memory, plain};
+use crate::texts::fractional_text;
 use lf_base::{Memory, Text};
-use lf_desk::is_frame_name;
+use lf_desk::{RegisterErr, is_frame_name};
 use lf_http::Allow;
-use lf_model::{LdError, RegisterErr};
+use lf_model::LdError;
 use std::alloc::Global;
 
 // The most bytes of a frame's text.
-const MOST_FRAME: usize = 65_536;
-
-/// The body of a frame's name.
-#[tactic(auto, unfolding(crate::specs::Bodies::frame_body))]
-pub fn frame_text(alloc: Global, name: &str) -> Result<Text, Memory>
-    ensures { IfOk result (λ text. text ≡ frame_body name.now) }
-{
-    let mut text = String::from_str(alloc, "{\"frame\":\"")?;
-    text.push_str(name)?;
-    text.push_str("\"}")?;
-    Text::from_string(text)
-}
-
-// The members of the body of a fractional number.
-#[tactic(auto, unfolding(crate::specs::Tokens::fractional_tokens))]
-fn write_fractional(writer: &mut Writer, path: &Text) -> Result<(), Memory>
-    requires { writer.old.tokens ≡ [] }
-    ensures tokens { OnOk result (writer.new.tokens ≡ fractional_tokens path.now) }
-    ensures before { OnOk result (writer.new.before ≡ writer.old.before) }
-{
-    writer.begin_object()?;
-    writer.key("error")?;
-    writer.string("fractional number")?;
-    writer.key("path")?;
-    writer.string(path.as_str())?;
-    writer.end_object()?;
-    Ok(())
-}
-
-// The text that was written.
-fn text_of(writer: Writer) -> Result<Text, Memory>
-    requires { writer.before ≡ [] }
-    ensures { IfOk result (λ text. text ≡ print writer.tokens) }
-{
-    Text::from_string(String::from_utf8(writer.into_inner()).unwrap())
-}
-
-/// The body of a number of a frame that is no whole number within range, by its path.
-pub fn fractional_text(alloc: Global, path: &Text) -> Result<Text, Memory>
-    ensures { IfOk result (λ text. text ≡ fractional_body path.now) }
-{
-    let mut writer = Writer::new(Vec::new(alloc));
-    write_fractional(&mut writer, path)?;
-    Ok(text_of(writer)?)
-}
+const MOST_FRAME_BYTES: usize = 65_536;
 
 // A JSON text that was made, and speaks of no version.
 fn long(status: u16, text: Text) -> Reply
@@ -87,15 +41,6 @@ pub fn retired(text: Text) -> Reply
     ensures named { IsTrue (is_named result.status) }
 {
     long(200, text)
-}
-
-#[tactic(auto, unfolding(lf_http::specs::Reply::reason))]
-fn bad_frame(text: &[u8]) -> Reply
-    requires { length text.now ≤ 64 }
-    ensures shown { shown result ≡ plain 400 (error_body text.now) }
-    ensures named { IsTrue (is_named result.status) }
-{
-    plain(400, error_body(text))
 }
 
 #[tactic(auto, unfolding(lf_http::specs::Reply::reason))]
@@ -136,12 +81,11 @@ pub fn register_refused(alloc: Global, error: RegisterErr) -> Result<Reply, Memo
     ensures named { IfOk result (λ reply. IsTrue (is_named reply.status)) }
 {
     match error {
-        RegisterErr::BadName => Ok(bad_frame(b"bad name")),
+        RegisterErr::BadName => Ok(bad_request(b"bad name")),
         RegisterErr::FrameTooLong { length } => Ok(too_long(length)),
-        RegisterErr::NotJson => Ok(bad_frame(b"not JSON")),
+        RegisterErr::NotJson => Ok(bad_request(b"not JSON")),
         RegisterErr::Fractional { path } => fractional(alloc, &path),
         RegisterErr::Ld(error) => Ok(bad_ld(error)),
-        RegisterErr::NotBuilt => Ok(not_built()),
         RegisterErr::TooManyFrames { have, would } => Ok(too_many_frames(have, would)),
         RegisterErr::HistoryFull { of, have, limit } => Ok(history_full(of, have, limit)),
         RegisterErr::Memory => Ok(out_of_memory()),
@@ -197,10 +141,10 @@ pub fn refused_bytes(name: &str, body: &[u8]) -> Reply
     ensures named { IsTrue (is_named result.status) }
 {
     if !is_frame_name(name.as_bytes()) {
-        bad_frame(b"bad name")
-    } else if body.len() > MOST_FRAME {
+        bad_request(b"bad name")
+    } else if body.len() > MOST_FRAME_BYTES {
         too_long(body.len() as u64)
     } else {
-        not_built()
+        bad_request(b"not JSON")
     }
 }

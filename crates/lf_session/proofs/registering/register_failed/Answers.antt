@@ -1,5 +1,5 @@
 use Rattle.std.proofs.Common.{inl}
-use Rattle.lf_session.proofs.long.register_failed.Goals as goal
+use Rattle.lf_session.proofs.registering.register_failed.Goals as goal
 
 pub returns-in-Ok-clause-shown : goal.returns-in-Ok-clause-shown
 returns-in-Ok-clause-shown c = λ name. inl (c.in-Ok.ensures.shown name)

@@ -1,7 +1,7 @@
 use Rattle.std.proofs.Common.{ap, ◌∙◌}
 use Rattle.json.specs.Print.{print}
 use Rattle.lf_session.proofs.Printed.{fractional-printed}
-use Rattle.lf_session.proofs.long.fractional_text.Goals as goal
+use Rattle.lf_session.proofs.texts.fractional_text.Goals as goal
 
 pub returns : goal.returns
 returns c =

@@ -1,14 +1,15 @@
 -- A stream that is served from the empty history on has the headline.
 use Rattle.std.proofs.Common.{◌≡◌, refl, subst, Option, List, [], ℕ, Bool, true}
 use Rattle.def_histories.specs.declared.operation.Operation.{Operation}
-use Rattle.lf_desk.specs.Accepted.{is_first_frame}
+use Rattle.lf_frames.specs.FrameTexts.{is_frame}
 use Rattle.lf_session.specs.declared.ended.Ended.{Ended}
 use Rattle.lf_session.specs.declared.ended.Ended.TheVariants as ended
 use Rattle.lf_session.specs.Served.{Told, IsServed}
 use Rattle.lf_session.proofs.EmptyHistory.{empty_is_legal}
 use Rattle.lf_session.proofs.HeadlineProofs.{sessions_hold}
 use Rattle.lf_session.proofs.Streams.{not_begun}
-use Rattle.lf_app.specs.Sessions.{session_seat, RunsSession}
+use Rattle.lf_app.specs.Holding.{session_seat}
+use Rattle.lf_app.specs.Sessions.{RunsSession}
 
 pub runs_session : (seat : ℕ) (alone : Bool) (before after : List Operation) (told : Told) (end : Ended)
     → seat ≡ session_seat → alone ≡ true → before ≡ [] → IsServed alone seat before after told end → RunsSession told end
@@ -29,4 +30,4 @@ pub runs_nothing : (left held : Option (List ℕ))
     → RunsSession record { left_before = left; left_after = left; held_before = held; held_after = held } ended.Memory
 runs_nothing left held =
     runs_session session_seat true [] [] record { left_before = left; left_after = left; held_before = held; held_after = held } ended.Memory
-    refl refl refl (not_begun true session_seat [] left held (empty_is_legal is_first_frame))
+    refl refl refl (not_begun true session_seat [] left held (empty_is_legal is_frame))

@@ -1,103 +1,126 @@
--- What a run of the program has to say, when each answer comes, and how it is printed.
-use Rattle.std.specs.Prelude.{◌≡◌, ◌⊎◌, ◌<◌, ◌≤◌, IsSome, List, [], ◌∷◌, ◌++◌, ℕ, Option, Some, None, codes, length, if◌then◌else◌}
-use Rattle.lf_rdf.specs.declared.quad.Quad.{Quad}
-use Rattle.lf_io.specs.Faults.{risen}
-use Rattle.lf_io.specs.Files.{Files, MayHold, is_there}
-use Rattle.lf_first.specs.First.{IsFirstText, IsFirstFrame}
-use Rattle.lf_small.specs.Small.{small}
-use Rattle.lf_app.specs.Words.{files_named}
+-- What `frame`, `check` and refused words come to. The conditions are tried in this order: the words, the frame file, the frame,
+-- the data files one after another, the document.
+use Rattle.std.specs.Prelude.{◌≡◌, ◌⊎◌, ◌≤◌, List, [], ◌∷◌, ◌++◌, ℕ, length, Option, Some, None, Result, Ok, Err}
+use Rattle.lf_rdf.specs.declared.quad.Patch.{Patch}
+use Rattle.lf_model.specs.declared.desk.Counted.TheVariants as counted
+use Rattle.lf_model.specs.declared.document.Doc.{Doc}
+use Rattle.lf_model.specs.declared.document.Doc.TheVariants as doc
+use Rattle.def_patch_texts.specs.declared.kind.LineKind.{LineKind}
+use Rattle.def_histories.specs.declared.operation.Operation.{Operation}
+use Rattle.def_histories.specs.Legal.{most_frame_bytes}
+use Rattle.def_histories.specs.Replay.{newest_dataset}
+use Rattle.lf_nquads.specs.Patches.{text_limit}
+use Rattle.lf_io.specs.Files.{Files, MayHold}
+use Rattle.lf_frames.specs.FrameTexts.{FrameText, not_json, fractional, refused, accepted as accepted_frame, frame_text, document as framed}
+use Rattle.lf_desk.specs.declared.refusals.CommitErr.{CommitErr}
+use Rattle.lf_desk.specs.declared.refusals.CommitErr.TheVariants as commit
+use Rattle.lf_desk.specs.CommitAnswer.{commit_answer}
+use Rattle.lf_app.specs.declared.answer.Fault.{Fault}
+use Rattle.lf_app.specs.declared.answer.Fault.TheVariants as fault
+use Rattle.lf_app.specs.declared.answer.Passed.{Passed}
+use Rattle.lf_app.specs.declared.answer.Passed.TheVariants as passed
+use Rattle.lf_app.specs.Words.{Command, frame, check, session, command_of}
+use Rattle.lf_app.specs.Holding.{HoldsFrame, HoldsMore, HoldsPatch, HoldsBadLine, IsCommitted, AreCommitted}
 
--- how many bytes a frame file and a data file have at most
-abbrev pub file_limit : ℕ
-file_limit = 65536
-
--- The file of this name may hold a frame of the first form, which asks for the nodes of this type or for all.
-pub record HoldsFrame (files : Option Files) (name : List ℕ) (want : Option (List ℕ)) : Type 0 where
-  pub bytes : List ℕ
-  pub held : MayHold files name bytes
-  pub within : length bytes ≤ file_limit
-  pub means : IsFirstFrame bytes want
-
--- The file of this name may hold data of the first form, which states these quads.
-pub record HoldsData (files : Option Files) (name : List ℕ) (quads : List Quad) : Type 0 where
-  pub bytes : List ℕ
-  pub held : MayHold files name bytes
-  pub within : length bytes ≤ file_limit
-  pub states : IsFirstText bytes quads
-
--- The file of this name may hold no frame of the first form, or is too long.
-pub record HoldsNoFrame (files : Option Files) (name : List ℕ) : Type 0 where
-  pub bytes : List ℕ
-  pub held : MayHold files name bytes
-  pub refused : (file_limit < length bytes) ⊎ ((want : Option (List ℕ)) → ¬ (IsFirstFrame bytes want))
-
--- The file of this name may hold no data of the first form, or is too long.
-pub record HoldsNoData (files : Option Files) (name : List ℕ) : Type 0 where
-  pub bytes : List ℕ
-  pub held : MayHold files name bytes
-  pub refused : (file_limit < length bytes) ⊎ ((quads : List Quad) → ¬ (IsFirstText bytes quads))
-
--- The file is tried: the frame file first, and the data file once the frame was read.
-abbrev pub IsTried : Option Files → List (List ℕ) → List ℕ → Type 0
-IsTried files words file =
-    (frame : List ℕ) × (data_file : List ℕ) × (files_named words ≡ Some (frame, data_file))
-    × ((file ≡ frame) ⊎ ((file ≡ data_file) × ((want : Option (List ℕ)) × HoldsFrame files frame want)))
-
--- The file isn't of the first form, or is too long, and is the first such file.
-abbrev pub IsNotBuilt : Option Files → List (List ℕ) → List ℕ → Type 0
-IsNotBuilt files words file =
-    (frame : List ℕ) × (data_file : List ℕ) × (files_named words ≡ Some (frame, data_file))
-    × (((file ≡ frame) × HoldsNoFrame files frame)
-    ⊎ ((file ≡ data_file) × ((want : Option (List ℕ)) × HoldsFrame files frame want) × HoldsNoData files data_file))
-
--- The document is that of the two files.
-abbrev pub IsFramed : Option Files → List (List ℕ) → List ℕ → Type 0
-IsFramed files words document =
-    (frame : List ℕ) × (data_file : List ℕ) × (files_named words ≡ Some (frame, data_file))
-    × ((want : Option (List ℕ)) × (quads : List Quad) × HoldsFrame files frame want × HoldsData files data_file quads
-    × (document ≡ small want quads))
-
--- what a run has to say
+-- Files go by their words.
 pub data Answer : Type 0 where
   usage : Answer
   cannot_read : List ℕ → Answer
-  not_built : List ℕ → Answer
+  bad_line : List ℕ → ℕ → LineKind → Answer
+  bad_frame : List ℕ → Fault → Answer
+  over : Passed → Answer
+  accepted : Answer
   document : List ℕ → Answer
   no_memory : Answer
 
--- when each answer comes; a shelf's counts of faults say which takes failed
+-- why a text is no frame
+abbrev pub fault_of : FrameText → Option Fault
+fault_of not_json = Some fault.NotJson
+fault_of (fractional path) = Some fault.Fractional
+fault_of (refused error) = Some (fault.Ld error)
+fault_of (accepted_frame meaning) = None
+
+-- the limit that a commit passes
+abbrev pub passed_by : Result ℕ CommitErr → Option Passed
+passed_by (Ok version) = None
+passed_by (Err (commit.HistoryFull counted.Commits have limit)) = Some passed.Commits
+passed_by (Err (commit.HistoryFull counted.Bytes have limit)) = Some passed.HistoryBytes
+passed_by (Err (commit.HistoryFull counted.Registrations have limit)) = None
+passed_by (Err (commit.TooManyQuads have would)) = Some passed.Quads
+passed_by (Err commit.Memory) = None
+
+-- A text that is no frame is refused by what is wrong with it.
+abbrev pub RefusesText : List ℕ → List ℕ → Answer → Type 0
+RefusesText file text (bad_frame name why) = (name ≡ file) × (fault_of (frame_text text) ≡ Some why)
+RefusesText file text no_memory = Unit {0}
+RefusesText file text _ = ⊥
+
+-- A frame file gives no frame: it can't be read, is too long, or its text is no frame.
+abbrev pub RefusesFrame : Option Files → List ℕ → Answer → Type 0
+RefusesFrame files file (cannot_read name) = name ≡ file
+RefusesFrame files file (over passed.FrameText) = HoldsMore files file most_frame_bytes
+RefusesFrame files file (bad_frame name why) =
+    (name ≡ file) × ((text : List ℕ) × MayHold files file text × (length text ≤ most_frame_bytes)
+    × (fault_of (frame_text text) ≡ Some why))
+RefusesFrame files file no_memory = Unit {0}
+RefusesFrame files file _ = ⊥
+
+-- A data file gives no patch: it can't be read, is too long, or has a bad line.
+abbrev pub RefusesData : Option Files → List ℕ → Answer → Type 0
+RefusesData files file (cannot_read name) = name ≡ file
+RefusesData files file (over passed.PatchText) = HoldsMore files file text_limit
+RefusesData files file (bad_line name line kind) = (name ≡ file) × HoldsBadLine files file line kind
+RefusesData files file no_memory = Unit {0}
+RefusesData files file _ = ⊥
+
+-- A patch isn't committed, since a limit of histories would be passed.
+abbrev pub RefusesPatch : List Operation → Patch → Answer → Type 0
+RefusesPatch history patch (over limit) = passed_by (commit_answer history patch) ≡ Some limit
+RefusesPatch history patch no_memory = Unit {0}
+RefusesPatch history patch _ = ⊥
+
+-- A data file isn't committed.
+abbrev pub Refuses : Option Files → List ℕ → List Operation → Answer → Type 0
+Refuses files file history answer =
+    RefusesData files file answer ⊎ ((patch : Patch) × HoldsPatch files file patch × RefusesPatch history patch answer)
+
+-- One of the data files isn't committed, and those before it are.
+abbrev pub RefusesOne : Option Files → List (List ℕ) → List Operation → Answer → Type 0
+RefusesOne files [] history answer = ⊥
+RefusesOne files (file ∷ rest) history answer =
+    Refuses files file history answer
+    ⊎ ((later : List Operation) × IsCommitted files file history later × RefusesOne files rest later answer)
+
+-- the document, or the error or the limit that stands in its place
+abbrev pub answer_by : List ℕ → Doc → Answer
+answer_by file (doc.Bytes text) = document text
+answer_by file (doc.Refused error) = bad_frame file (fault.Ld error)
+answer_by file (doc.Over limit) = over (passed.Document limit)
+
+-- The answer is this one, unless no memory was found.
+abbrev pub IsOr : Answer → Answer → Type 0
+IsOr wanted answer = (answer ≡ wanted) ⊎ (answer ≡ no_memory)
+
+-- All files are committed, and the document is that of the frame's text over their dataset.
+abbrev pub Frames : Option Files → List ℕ → List ℕ → List (List ℕ) → Answer → Type 0
+Frames files file text data_files answer =
+    (history : List Operation) × AreCommitted files data_files [] history
+    × IsOr (answer_by file (framed text (newest_dataset history))) answer
+
+-- The frame is accepted, and then the data files are committed one after another.
+abbrev pub GoesOn : Option Files → List ℕ → List (List ℕ) → Answer → Type 0
+GoesOn files file data_files answer =
+    (text : List ℕ) × HoldsFrame files file text
+    × (RefusesOne files data_files [] answer ⊎ Frames files file text data_files answer)
+
+-- what a command comes to; `session` has no answer of its own
+abbrev pub AnswersTo : Option Files → Option Command → Answer → Type 0
+AnswersTo files None answer = answer ≡ usage
+AnswersTo files (Some (frame file data_files)) answer = RefusesFrame files file answer ⊎ GoesOn files file data_files answer
+AnswersTo files (Some (check file)) answer =
+    RefusesFrame files file answer ⊎ ((answer ≡ accepted) × ((text : List ℕ) × HoldsFrame files file text))
+AnswersTo files (Some session) answer = ⊥
+
+-- what words come to
 abbrev pub Comes : Option Files → List (List ℕ) → Answer → Type 0
-Comes files words usage = files_named words ≡ None
-Comes files words (cannot_read file) = IsTried files words file
-Comes files words (not_built file) = IsNotBuilt files words file
-Comes files words (document text) = IsFramed files words text
-Comes files words no_memory = IsSome (files_named words)
-
--- the line that names the words that there are
-unfoldable pub usage_line : List ℕ
-usage_line =
-    codes "usage: ldframes frame FRAME DATA.. or check FRAME or load SEED N or session [NAME=PATH].. or serve PORT WORKERS [NAME=PATH]..\n"
-
--- the text that is printed, with its line end
-abbrev pub text_of : Answer → List ℕ
-text_of usage = usage_line
-text_of (cannot_read file) = codes "cannot read " ++ file ++ 10 ∷ []
-text_of (not_built file) = codes "not built: " ++ file ++ 10 ∷ []
-text_of (document text) = text ++ 10 ∷ []
-text_of no_memory = []
-
--- the count of faults of the shelf after each answer: only a file that can't be read raises it
-abbrev pub shelf_faults_after : ℕ → Answer → ℕ
-shelf_faults_after count (cannot_read file) = risen count
-shelf_faults_after count usage = count
-shelf_faults_after count (not_built file) = count
-shelf_faults_after count (document text) = count
-shelf_faults_after count no_memory = count
-
--- the count of failed takes of files that are there after each answer
-abbrev pub shelf_refusals_after : Option Files → ℕ → Answer → ℕ
-shelf_refusals_after files count (cannot_read file) = if is_there files file then risen count else count
-shelf_refusals_after files count usage = count
-shelf_refusals_after files count (not_built file) = count
-shelf_refusals_after files count (document text) = count
-shelf_refusals_after files count no_memory = count
+Comes files words answer = AnswersTo files (command_of words) answer

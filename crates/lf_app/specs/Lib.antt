@@ -1,6 +1,12 @@
 pub mod Words
+pub mod Holding
 pub mod Answers
-pub mod Refusals
-pub mod Said
+pub mod Texts
+pub mod Counting
+pub mod FrameFiles
+pub mod DataFiles
+pub mod Framing
+pub mod Runs
 pub mod Sessions
-pub mod Statuses
+pub mod Laws
+pub mod Completeness

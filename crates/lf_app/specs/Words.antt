@@ -1,20 +1,59 @@
--- The words of the command line.
-use Rattle.std.specs.Prelude.{List, [], ◌∷◌, ℕ, nat_eq, Bool, false, not, ◌&&◌, if◌then◌else◌, Option, Some, None, codes}
+-- What the words of the command line ask for.
+use Rattle.std.specs.Prelude.{List, [], ◌∷◌, ℕ, nat_eq, Bool, false, if◌then◌else◌, Option, Some, None, codes, map, string_bytes}
+use Rattle.std.specs.List.{list_any}
 use Rattle.std.specs.Cmp.Lexicographic.{pointwise}
+use Rattle.lf_app.specs.declared.words.Command.{Command as ReadCommand}
+use Rattle.lf_app.specs.declared.words.Command.TheVariants as read
 
--- a word that begins with `-` is refused
+-- A frame file and one or more data files are framed, a frame file is checked, or one stream is served. Files go by their words.
+pub data Command : Type 0 where
+  frame : List ℕ → List (List ℕ) → Command
+  check : List ℕ → Command
+  session : Command
+
+-- the first byte of a word that is refused wherever it stands: `-`
+abbrev pub dash : ℕ
+dash = 45
+
 abbrev pub begins_with_dash : List ℕ → Bool
 begins_with_dash [] = false
-begins_with_dash (byte ∷ rest) = nat_eq byte 45
+begins_with_dash (byte ∷ rest) = nat_eq byte dash
 
--- The frame file and the data file that the words name: they are exactly `frame FRAME DATA`.
-abbrev pub files_named : List (List ℕ) → Option (List ℕ × List ℕ)
-files_named (command ∷ frame ∷ data_file ∷ []) =
-    if pointwise nat_eq command (codes "frame") && not (begins_with_dash frame) && not (begins_with_dash data_file)
-    then Some (frame, data_file) else None
-files_named _ = None
+abbrev pub is_word : List ℕ → List ℕ → Bool
+is_word word name = pointwise nat_eq word name
 
--- the words are `session` alone
-abbrev pub is_session : List (List ℕ) → Bool
-is_session (command ∷ []) = pointwise nat_eq command (codes "session")
-is_session _ = false
+-- the words behind each command's name
+abbrev pub frame_words : List (List ℕ) → Option Command
+frame_words [] = None
+frame_words (file ∷ []) = None
+frame_words (file ∷ data_file ∷ more) = Some (frame file (data_file ∷ more))
+
+abbrev pub check_words : List (List ℕ) → Option Command
+check_words [] = None
+check_words (file ∷ []) = Some (check file)
+check_words (file ∷ more ∷ words) = None
+
+abbrev pub session_words : List (List ℕ) → Option Command
+session_words [] = Some session
+session_words (more ∷ words) = None
+
+abbrev pub named : List ℕ → List (List ℕ) → Option Command
+named name words =
+    if is_word name (codes "frame") then frame_words words
+    else if is_word name (codes "check") then check_words words
+    else if is_word name (codes "session") then session_words words
+    else None
+
+abbrev pub first_named : List (List ℕ) → Option Command
+first_named [] = None
+first_named (name ∷ words) = named name words
+
+-- what the words ask for; all other words are refused
+abbrev pub command_of : List (List ℕ) → Option Command
+command_of words = if list_any begins_with_dash words then None else first_named words
+
+-- what the program read stands for
+abbrev pub command_read : ReadCommand → Command
+command_read (read.Frame file files) = frame file.now (map string_bytes files.now)
+command_read (read.Check file) = check file.now
+command_read read.Session = session

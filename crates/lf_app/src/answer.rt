@@ -1,49 +1,56 @@
-ghost use Rattle.std.specs.Prelude.{◌≡◌, ◌∷◌, map, string_bytes};
-ghost use Rattle.lf_app.specs.Answers.{Comes, shelf_faults_after, shelf_refusals_after};
-ghost use Rattle.lf_app.specs.Said.{answer_of};
+//! What a run of `frame`, `check` or refused words has to say. The readers of files make these values, and `print` prints them.
+use def_patch_texts::LineKind;
+use lf_base::Text;
+use lf_model::{LdError, Limit};
 
-use crate::files::{Refusal, read_data, read_frame};
-use crate::words::read_words;
-use lf_base::{Memory, Text};
-use lf_embed::small_document;
-use lf_io::Shelf;
-use std::alloc::Global;
-
-/// What a run has to say. A file goes by its word.
-#[derive(Debug, Drop)]
-pub enum Said<'a> {
-    Usage,
-    CannotRead(&'a str),
-    NotBuilt(&'a str),
-    Document(Text),
-    NoMemory,
+/// Why a text is no frame, or has no document.
+#[derive(Clone, Copy, Debug, PartialEq, Eq)]
+pub enum Fault {
+    /// It is no JSON text.
+    NotJson,
+    /// A number in it is no whole number within range.
+    Fractional,
+    /// The first error of the context, of the frame, or of its document.
+    Ld(LdError),
 }
 
-/// The answer to the words.
-pub fn answer<'a, F: Shelf>(alloc: Global, words: &'a [String], shelf: &mut F) -> Said<'a>
-    ensures comes { Comes (F.files shelf.old) (map string_bytes words.now) (answer_of result) }
-    ensures files { F.files shelf.new ≡ F.files shelf.old }
-    ensures faults { F.faults shelf.new ≡ shelf_faults_after (F.faults shelf.old) (answer_of result) }
-    ensures refusals { F.refusals shelf.new
-        ≡ shelf_refusals_after (F.files shelf.old) (F.refusals shelf.old) (answer_of result) }
-{
-    let Some(named) = read_words(words) else {
-        return Said::Usage;
-    };
-    let want = match read_frame(alloc, shelf, named.frame) {
-        Ok(want) => want,
-        Err(Refusal::CannotRead) => return Said::CannotRead(named.frame),
-        Err(Refusal::NotBuilt) => return Said::NotBuilt(named.frame),
-        Err(Refusal::Memory) => return Said::NoMemory,
-    };
-    let quads = match read_data(alloc, shelf, named.data) {
-        Ok(quads) => quads,
-        Err(Refusal::CannotRead) => return Said::CannotRead(named.data),
-        Err(Refusal::NotBuilt) => return Said::NotBuilt(named.data),
-        Err(Refusal::Memory) => return Said::NoMemory,
-    };
-    match small_document(alloc, want.as_ref(), &quads) {
-        Ok(document) => Said::Document(document),
-        Err(Memory) => Said::NoMemory,
-    }
+/// A limit that was passed.
+#[derive(Clone, Copy, Debug, PartialEq, Eq)]
+pub enum Passed {
+    /// The bytes of a frame file.
+    FrameText,
+    /// The bytes of a data file.
+    PatchText,
+    /// The commits of a history, one for each data file.
+    Commits,
+    /// The bytes of all data files.
+    HistoryBytes,
+    /// The quads of a version.
+    Quads,
+    /// A limit of the document.
+    Document(Limit),
+}
+
+/// What a run has to say. Files go by their words.
+#[derive(Debug, Drop)]
+pub enum Said<'a> {
+    /// The words are refused.
+    Usage,
+    CannotRead(&'a str),
+    /// A data file's first bad line, counted from 1, and what is wrong with it.
+    BadLine {
+        file: &'a str,
+        line: u64,
+        kind: LineKind,
+    },
+    /// A frame file's text is no frame, or the document has an error.
+    BadFrame {
+        file: &'a str,
+        why: Fault,
+    },
+    Over(Passed),
+    /// The frame is accepted.
+    Accepted,
+    Document(Text),
+    NoMemory,
 }

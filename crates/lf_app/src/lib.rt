@@ -2,7 +2,10 @@
 #![tactic(auto)]
 
 mod answer;
-mod files;
+mod data_files;
+mod frame_file;
+mod framing;
+mod laws;
 mod print;
 mod program;
 mod run;
@@ -13,5 +16,6 @@ mod session_tests;
 mod tests;
 mod words;
 
+pub use laws::{each_run_says_one_thing, files_are_framed, sessions_end_well};
 pub use program::run_program;
 pub use run::run_words;

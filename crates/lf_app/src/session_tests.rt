@@ -171,12 +171,20 @@ fn requests_are_refused_in_their_order(rt: HostRuntime) -> Result<(), Fail> {
             "400 Bad Request\r\nContent-Type: application/json\r\nContent-Length: 20\r\n\r\n{\"error\":\"bad name\"}",
         ),
         (
-            "PUT /frames/a HTTP/1.1\r\nHost: x\r\nContent-Length: 3\r\n\r\n{ }",
-            "501 Not Implemented\r\nContent-Type: application/json\r\nContent-Length: 21\r\n\r\n{\"error\":\"not built\"}",
+            "PUT /frames/a HTTP/1.1\r\nHost: x\r\nContent-Length: 1\r\n\r\n{",
+            "400 Bad Request\r\nContent-Type: application/json\r\nContent-Length: 20\r\n\r\n{\"error\":\"not JSON\"}",
         ),
         (
-            "POST /patch HTTP/1.1\r\nHost: x\r\nContent-Length: 1\r\n\r\nx",
-            "501 Not Implemented\r\nContent-Type: application/json\r\nContent-Length: 21\r\n\r\n{\"error\":\"not built\"}",
+            "PUT /frames/a HTTP/1.1\r\nHost: x\r\nContent-Length: 16\r\n\r\n{\"http://p\":2.5}",
+            "400 Bad Request\r\nContent-Type: application/json\r\nContent-Length: 50\r\n\r\n{\"error\":\"fractional number\",\"path\":\"/http:~1~1p\"}",
+        ),
+        (
+            "PUT /frames/a HTTP/1.1\r\nHost: x\r\nContent-Length: 18\r\n\r\n{\"@embed\":\"@link\"}",
+            "422 Unprocessable Content\r\nContent-Type: application/json\r\nContent-Length: 32\r\n\r\n{\"error\":\"invalid @embed value\"}",
+        ),
+        (
+            "POST /patch HTTP/1.1\r\nHost: x\r\nContent-Length: 24\r\n\r\n\n\n<http://e/a> <p> \"x\" .",
+            "400 Bad Request\r\nContent-Type: application/json\r\nContent-Length: 33\r\n\r\n{\"error\":\"relative IRI\",\"line\":3}",
         ),
     ];
     for (input, wanted) in rows {

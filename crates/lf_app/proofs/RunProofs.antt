@@ -1,0 +1,30 @@
+-- A run, from what its command came to.
+use Rattle.std.proofs.Common.{◌≡◌, ℕ, Bool, true, false, List, Option, refl, sym, ap, subst, ◌∙◌}
+use Rattle.lf_session.specs.declared.ended.Ended.{Ended}
+use Rattle.lf_app.specs.Words.{Command, command_of}
+use Rattle.lf_app.specs.Answers.{Answer, AnswersTo}
+use Rattle.lf_app.specs.Counting.{faults_after, refusals_after}
+use Rattle.lf_app.specs.Runs.{Run, IsPrinted, Says}
+use Rattle.lf_app.specs.Sessions.{Serves, is_session, RunsAs, IsRun}
+
+pub says_run : (run : Run) (command : Option Command) (answer : Answer) → command ≡ command_of run.words → is_session command ≡ false
+    → AnswersTo run.files command answer
+    → IsPrinted run.status answer run.held_before run.held_after run.writes_before run.writes_after
+    → run.takes_after ≡ faults_after run.takes_before answer
+    → run.there_after ≡ refusals_after run.files run.there_before answer
+    → run.reads_after ≡ run.reads_before → IsRun run
+says_run run command answer named plain answers printed takes there reads =
+    let says : Says run answer =
+    record {
+      comes = subst (λ (c : Option Command). AnswersTo run.files c answer) named answers;
+      printed = printed;
+      takes = takes;
+      there = there;
+      reads = reads;
+    }
+    in subst (λ (b : Bool). RunsAs b run) (sym (ap is_session (sym named) ∙ plain)) (answer, says)
+
+pub serves_run : (run : Run) (command : Option Command) (end : Ended) → command ≡ command_of run.words → is_session command ≡ true
+    → Serves run end → IsRun run
+serves_run run command end named session serves =
+    subst (λ (b : Bool). RunsAs b run) (sym (ap is_session (sym named) ∙ session)) (end, serves)

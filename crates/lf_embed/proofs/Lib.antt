@@ -1,8 +1,3 @@
-pub mod Ties
-pub mod Groups
-pub mod Walks
-pub mod Steps
-pub mod Documents
 pub mod WalkProofs
 pub mod FormProofs
 pub mod FittingProofs

@@ -4,7 +4,6 @@ pub mod Made
 pub mod PlaceLaws
 pub mod Places
 pub mod Runs
-pub mod Tokens
 pub mod Walks
 pub mod Cycle
 pub mod Embeds

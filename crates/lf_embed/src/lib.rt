@@ -1,28 +1,23 @@
-//! Embedding: the outcome of a term by a frame, and the plain document of a dataset.
+//! Embedding: the outcome of a term by a frame (JSON-LD 1.1 Framing, section 4).
 #![tactic(auto)]
 
 mod choices;
 mod defaults;
-mod document;
 mod embed;
 mod entries;
-mod facts;
 mod fitting;
 mod form;
 mod outcomes;
 mod parts;
 mod place;
-mod runs;
 #[cfg(test)]
 mod tests;
 mod walk;
-mod write;
 
 pub use choices::{
     ReferenceRule, entering, framed_graph, is_left, reference_rule, seen_view, types_for,
 };
 pub use defaults::default_part;
-pub use document::small_document;
 pub use entries::{emit_literal, fallback_entries, null_entry, refer};
 pub use fitting::{form_accepts, form_matches};
 pub use form::{

@@ -1,4 +1,3 @@
-pub mod FirstFrame
 pub mod Gives
 pub mod LabelTest
 pub mod JsonTests

@@ -6,7 +6,6 @@ mod context;
 mod defaults;
 mod error;
 mod expand;
-mod first_frame;
 mod flags;
 mod found;
 mod given;
@@ -25,7 +24,6 @@ mod terms;
 
 pub use error::FrameErr;
 pub use expand::expand_frame;
-pub use first_frame::read_first_frame;
 
 #[cfg(test)]
 mod frame_tests;

@@ -1,39 +1,27 @@
-use super::*;
-use lf_first::FirstErr;
-use std::test::*;
+use crate::{FrameErr, expand_frame};
+use lf_model::{Json, JsonMap, LdError};
+use std::test::Fail;
 
 #[test]
-fn reads_frames(rt: HostRuntime) -> Result<(), Fail> {
-    for text in ["{}", "{}\n"] {
-        let want = read_first_frame(rt.alloc(), text.as_bytes())
-            .ok()
-            .ok_or("it is a frame")?;
-        assert!(rt; want.is_none());
+fn an_empty_map_is_a_frame_of_one_map(rt: HostRuntime) -> Result<(), Fail> {
+    let alloc = rt.alloc();
+    let json = Json::Map(JsonMap::new(alloc));
+    match expand_frame(alloc, &json) {
+        Ok(frame) => {
+            let maps = frame.nodes.len();
+            drop(frame);
+            assert!(rt; maps == 1);
+        }
+        Err(_) => assert!(rt; false),
     }
-    let want = read_first_frame(rt.alloc(), b"{\"@type\":\"http://e/T\"}\n")
-        .ok()
-        .ok_or("it is a frame")?;
-    let node_type = want.ok_or("it asks for a type")?;
-    assert_eq!(rt; node_type.as_str(), "http://e/T");
+    let refused = match expand_frame(alloc, &Json::Null) {
+        Ok(frame) => {
+            drop(frame);
+            false
+        }
+        Err(FrameErr::Ld(error)) => error == LdError::InvalidFrame,
+        Err(FrameErr::Memory) => false,
+    };
+    assert!(rt; refused);
     Ok(())
-}
-
-#[test]
-fn refuses_other_frames(rt: HostRuntime) {
-    let others = [
-        "",
-        "{} ",
-        "{}\n\n",
-        "{\"@id\":\"http://e/a\"}",
-        "{\"@type\":\"T\"}",
-        "{\"@type\": \"http://e/T\"}",
-    ];
-    for text in others {
-        assert!(rt;
-            matches!(
-                read_first_frame(rt.alloc(), text.as_bytes()),
-                Err(FirstErr::NotBuilt)
-            )
-        );
-    }
 }

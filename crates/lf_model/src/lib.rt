@@ -14,7 +14,7 @@ mod tests;
 mod tree;
 mod value;
 
-pub use desk::{CommitErr, Counted, FramedNow, Look, Notice, NoticeList, RegisterErr};
+pub use desk::{Counted, FramedNow, Look, Notice, NoticeList};
 pub use document::{Doc, Limit, Outcome, OutcomeList};
 pub use error::{LdError, error_names_law};
 pub use frame::{

@@ -1,6 +1,6 @@
 //! A value of each type that is copied, and the errors' names.
 use crate::{
-    Counted, Doc, Json, JsonList, JsonMap, LdError, Limit, RegisterErr, Scalar, Tree, TreeList,
+    Doc, Json, JsonList, JsonMap, LdError, Limit, Scalar, Tree, TreeList,
     TreeProp, TreePropList, TreeReverseList, TreeValue, TreeValueList, Value, ValueList,
 };
 use lf_base::{Memory, Same, Text, TryCopy};
@@ -108,27 +108,11 @@ fn values_copy(rt: HostRuntime) -> Result<(), Fail> {
 }
 
 #[test]
-fn documents_and_errors_copy(rt: HostRuntime) -> Result<(), Fail> {
+fn documents_copy(rt: HostRuntime) -> Result<(), Fail> {
     let alloc = rt.alloc();
     let doc = copied(alloc, Doc::Over(Limit::Depth))?;
     let kept = matches!(&doc, Doc::Over(Limit::Depth));
     drop(doc);
-    assert!(rt; kept);
-    let full = RegisterErr::HistoryFull {
-        of: Counted::Bytes,
-        have: 1,
-        limit: 2,
-    };
-    let full = copied(alloc, full)?;
-    let kept = matches!(
-        &full,
-        RegisterErr::HistoryFull {
-            of: Counted::Bytes,
-            have: 1,
-            limit: 2
-        }
-    );
-    drop(full);
     assert!(rt; kept);
     Ok(())
 }

@@ -1,4 +1,3 @@
-pub mod FirstLoop
 pub mod WrittenProofs
 pub mod AsRead
 pub mod Places

@@ -6,7 +6,6 @@ mod characters;
 mod cursor;
 mod error;
 mod escape;
-mod first;
 mod iri;
 mod laws;
 mod literal;
@@ -15,12 +14,9 @@ mod statement;
 mod write;
 
 pub use error::LineErr;
-pub use first::read_first;
 pub use laws::each_text_is_told;
 pub use patch::read_patch;
 pub use write::write_quads;
 
-#[cfg(test)]
-mod first_tests;
 #[cfg(test)]
 mod tests;

@@ -1,4 +1,0 @@
-pub mod Escapes
-pub mod Ordered
-pub mod Alike
-pub mod Members

@@ -1,9 +1,16 @@
 //! The program `ldframes` once more, for its stored run of a session.
 #![tactic(auto)]
 
-use lf_app::run_program;
+use lf_app::{NO_MEMORY, STACK_BYTES, run_program};
 use std::process::ExitCode;
+use std::thread::Builder;
 
 fn main(rt: HostRuntime) -> ExitCode {
-    run_program(&rt, rt.stdin(), rt.stdout())
+    let work = Builder::new()
+        .stack_size(STACK_BYTES)
+        .spawn(&rt, move || run_program(&rt, rt.stdin(), rt.stdout()));
+    match work {
+        Ok(work) => work.join(&rt),
+        Err(_) => ExitCode::from(NO_MEMORY),
+    }
 }

@@ -17,5 +17,5 @@ mod tests;
 mod words;
 
 pub use laws::{each_run_says_one_thing, files_are_framed, sessions_end_well};
-pub use program::run_program;
+pub use program::{NO_MEMORY, STACK_BYTES, run_program};
 pub use run::run_words;

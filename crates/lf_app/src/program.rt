@@ -8,7 +8,12 @@ use std::rt::{Env, Files};
 use std::{env, io};
 
 /// The exit status for want of memory.
-const NO_MEMORY: u8 = 9;
+pub const NO_MEMORY: u8 = 9;
+
+/// The bytes of stack that `main` gives the work. What is framed, compacted and printed by recursion is at most 65,536 levels deep,
+/// since each level is an item of a tree; a level takes some 1.2 KB in the deepest of these functions.
+/// Only what is used takes memory.
+pub const STACK_BYTES: usize = 256 << 20;
 
 // The words behind the program's name.
 fn words_behind_name<R: Env + AllocGlobal>(rt: &R) -> io::Result<Vec<String>> {

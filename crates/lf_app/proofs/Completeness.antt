@@ -1,25 +1,22 @@
 -- Accepted files are framed, and whole streams are served to their end, where nothing fails.
-use Rattle.std.proofs.Common.{◌≡◌, ℕ, ◌+◌, ◌<◌, ◌^◌, ◌-◌, max, min, Bool, true, false, List, [], ◌∷◌, ◌++◌, Option, Some, None, refl, sym, ap, subst, ◌∙◌, inl, inr, arith}
-use Rattle.std.specs.Prelude.{◌⊎◌, All}
+use Rattle.std.proofs.Common.{◌≡◌, ℕ, Bool, true, false, List, [], Option, Some, None, refl, sym, ap, subst, ◌∙◌, inl, inr, arith}
+use Rattle.std.specs.Prelude.{◌⊎◌, is_some, if◌then◌else◌}
 use Rattle.lf_io.specs.Bytes.{appended}
 use Rattle.lf_io.specs.Faults.{risen}
 use Rattle.lf_io.specs.Files.{Files, is_there}
-use Rattle.lf_frames.specs.FrameTexts.{document as framed}
 use Rattle.lf_session.specs.declared.ended.Ended.{Ended}
 use Rattle.lf_session.specs.declared.ended.Ended.TheVariants as ended
-use Rattle.lf_session.specs.Headline.{answered}
-use Rattle.lf_session.specs.Exchanges.{Exchange}
-use Rattle.lf_session.specs.Whole.{Message, IsWholeMessage, all_bytes, message_in, MayEnd}
+use Rattle.lf_session.specs.Whole.{Message, MayEnd}
 use Rattle.lf_session.proofs.ToldProofs.{whole_streams_are_served}
-use Rattle.lf_app.specs.Words.{Command, frame, command_of}
+use Rattle.lf_app.specs.Words.{Command, command_of}
 use Rattle.lf_app.specs.Holding.{session_seat}
 use Rattle.lf_app.specs.Answers.{Answer, usage, cannot_read, bad_line, bad_frame, over, accepted, document, no_memory, answer_by, AnswersTo, Comes}
 use Rattle.lf_app.specs.Texts.{status_said, text_said}
 use Rattle.lf_app.specs.Counting.{refusals_after}
 use Rattle.lf_app.specs.Runs.{Run, IsPrinted, Says}
-use Rattle.lf_app.specs.Sessions.{is_session, RunsAs, IsRun, Serves, status_of}
+use Rattle.lf_app.specs.Sessions.{is_session, RunsAs, Serves}
 use Rattle.lf_app.specs.Laws.{IsCaused}
-use Rattle.lf_app.specs.Completeness.{AreFramed, most_faults, Stays, PrintsDocument, FilesAreFramed, SessionsEndWell}
+use Rattle.lf_app.specs.Completeness.{AreFramed, Stays, PrintsDocument, FilesAreFramed, SessionsEndWell}
 use Rattle.lf_app.proofs.OneAnswer.{each_run_says_one_thing}
 
 -- a count that stays didn't rise
@@ -38,11 +35,7 @@ IsUncaused files answer = (answer ≡ no_memory) ⊎ ((file : List ℕ) × (answ
 by_file : (files : Files) (file : List ℕ) (held : Option (List ℕ)) → files file ≡ held
     → IsCaused files (cannot_read file) ⊎ IsUncaused files (cannot_read file)
 by_file files file None is = inl is
-by_file files file (Some bytes) is = inr (inr (file, refl, ap is_some_of is))
-  where
-    is_some_of : Option (List ℕ) → Bool
-    is_some_of None = false
-    is_some_of (Some held) = true
+by_file files file (Some bytes) is = inr (inr (file, refl, ap is_some is))
 
 caused_or_not : (files : Files) (answer : Answer) → IsCaused files answer ⊎ IsUncaused files answer
 caused_or_not files (cannot_read file) = by_file files file (files file) refl
@@ -84,12 +77,8 @@ says_framed run files text answer says told are stays there (inr (inr (file, is,
     let rises : run.there_after ≡ risen run.there_before =
     says.there ∙ ap (λ (a : Answer). refusals_after run.files run.there_before a) is
     ∙ ap (λ (f : Option Files). refusals_after f run.there_before (cannot_read file)) told
-    ∙ ap (λ (b : Bool). cond_risen b run.there_before) held in
+    ∙ ap (λ (b : Bool). if b then risen run.there_before else run.there_before) held in
     absurd (not_risen run.there_before run.there_after there rises)
-  where
-    cond_risen : Bool → ℕ → ℕ
-    cond_risen true count = risen count
-    cond_risen false count = count
 
 pub files_are_framed : FilesAreFramed
 files_are_framed run files text is told are writes there =

@@ -1,7 +1,5 @@
 -- What framing comes to, step by step.
-use Rattle.std.proofs.Common.{◌≡◌, ℕ, List, [], ◌∷◌, Option, Some, refl, sym, ap, subst, ◌∙◌, inl, inr}
-use Rattle.std.specs.Prelude.{◌⊎◌}
-use Rattle.lf_rdf.specs.declared.quad.Quad.{Quad}
+use Rattle.std.proofs.Common.{◌≡◌, ℕ, List, [], Option, Some, refl, sym, ap, subst, inl, inr}
 use Rattle.lf_model.specs.declared.document.Doc.{Doc}
 use Rattle.lf_model.specs.declared.frame.Frame.{Frame}
 use Rattle.def_histories.specs.declared.operation.Operation.{Operation}
@@ -13,7 +11,7 @@ use Rattle.lf_app.specs.Words.{frame as frame_command, check}
 use Rattle.lf_app.specs.Holding.{AreCommitted}
 use Rattle.lf_app.specs.Answers.{Answer, accepted, no_memory, RefusesFrame, RefusesOne, answer_by, IsOr, AnswersTo}
 use Rattle.lf_app.specs.FrameFiles.{ReadsFrame}
-use Rattle.lf_app.specs.Framing.{DocumentOver, FramesOver}
+use Rattle.lf_app.specs.Framing.{FramesOver}
 
 pub over_refused : (files : Option Files) (file : List ℕ) (data_files : List (List ℕ)) (frame : Frame) (before : List Operation) (answer : Answer)
     → RefusesOne files data_files before answer → FramesOver files file data_files frame before answer

@@ -1,7 +1,6 @@
 -- Data files that are committed one after another: what those still to come lead to.
-use Rattle.std.proofs.Common.{◌≡◌, ℕ, suc, ◌+◌, ◌<◌, ◌≤◌, List, [], ◌∷◌, length, drop, get_or, map, Option, refl, sym, ap, subst, ◌∙◌, arith, inl, inr, drop-cons, String, Global, string_bytes}
+use Rattle.std.proofs.Common.{◌≡◌, ℕ, suc, ◌+◌, ◌<◌, ◌≤◌, List, [], ◌∷◌, length, drop, get_or, map, Option, refl, sym, ap, ◌∙◌, arith, inl, inr, drop-cons, String, Global, string_bytes}
 use Rattle.std.proofs.lemmas.List.{drop_all}
-use Rattle.std.specs.Prelude.{◌⊎◌}
 use Rattle.def_histories.specs.declared.operation.Operation.{Operation}
 use Rattle.lf_io.specs.Files.{Files}
 use Rattle.lf_app.specs.Holding.{IsCommitted, AreCommitted}

@@ -1,6 +1,6 @@
 -- Where the files are told, words come to one answer, which is computed here.
-use Rattle.std.proofs.Common.{◌≡◌, ℕ, ◌≤◌, nat_lt, Bool, true, false, List, [], ◌∷◌, ◌++◌, length, Option, Some, None, Result, Ok, Err, refl, sym, ap, subst, ◌∙◌, inl, inr}
-use Rattle.std.specs.Prelude.{◌⊎◌, IsTrue}
+use Rattle.std.proofs.Common.{◌≡◌, ℕ, nat_lt, Bool, true, false, List, [], ◌∷◌, ◌++◌, length, Option, Some, None, Result, Ok, Err, refl, sym, ap, subst, ◌∙◌, inl, inr}
+use Rattle.std.specs.Prelude.{◌⊎◌}
 use Rattle.std.proofs.lemmas.Bool.{false≢true, lt-ltb, le-ltb}
 use Rattle.lf_rdf.specs.declared.quad.Signed.{Signed}
 use Rattle.lf_rdf.specs.declared.quad.Patch.{Patch}
@@ -23,7 +23,7 @@ use Rattle.lf_app.specs.declared.answer.Passed.{Passed}
 use Rattle.lf_app.specs.declared.answer.Passed.TheVariants as passed
 use Rattle.lf_app.specs.Words.{Command, frame, check, session, command_of}
 use Rattle.lf_app.specs.Holding.{session_seat, HoldsFrame, HoldsPatch, IsCommitted, AreCommitted}
-use Rattle.lf_app.specs.Answers.{Answer, usage, cannot_read, bad_line, bad_frame, over, accepted, document, no_memory, fault_of, passed_by, RefusesFrame, RefusesData, RefusesPatch, Refuses, RefusesOne, answer_by, IsOr, Frames, GoesOn, AnswersTo, Comes}
+use Rattle.lf_app.specs.Answers.{Answer, usage, cannot_read, bad_line, bad_frame, over, accepted, document, no_memory, fault_of, passed_by, RefusesFrame, RefusesData, RefusesPatch, Refuses, RefusesOne, answer_by, IsOr, Frames, AnswersTo}
 use Rattle.lf_app.specs.Laws.{IsCaused, EachRunSaysOneThing}
 
 -- a step that may answer, and what follows where it doesn't

@@ -1,6 +1,5 @@
 -- Why files, texts and patches are refused.
-use Rattle.std.proofs.Common.{◌≡◌, ℕ, ◌≤◌, ◌+◌, suc, Bool, true, false, List, Option, Some, None, Result, Ok, Err, length, refl, sym, ap, subst, ◌∙◌, inl, inr, nat_lt, not, if◌then◌else◌}
-use Rattle.std.specs.Prelude.{◌⊎◌, IsTrue}
+use Rattle.std.proofs.Common.{◌≡◌, ℕ, ◌≤◌, ◌+◌, suc, Bool, true, false, List, Option, Result, Ok, Err, length, refl, ap, nat_lt, not, if◌then◌else◌}
 use Rattle.lf_rdf.specs.declared.quad.Patch.{Patch}
 use Rattle.lf_model.specs.declared.frame.Frame.{Frame}
 use Rattle.lf_model.specs.declared.desk.Counted.TheVariants as counted
@@ -14,9 +13,8 @@ use Rattle.lf_frames.specs.FrameTexts.{accepted as accepted_frame, frame_text, i
 use Rattle.lf_desk.specs.declared.refusals.CommitErr.{CommitErr}
 use Rattle.lf_desk.specs.declared.refusals.CommitErr.TheVariants as commit
 use Rattle.lf_desk.specs.CommitAnswer.{commit_answer, quads_before, quads_after}
-use Rattle.lf_app.specs.declared.answer.Passed.TheVariants as passed
-use Rattle.lf_app.specs.Holding.{HoldsFrame, HoldsPatch, HoldsBadLine}
-use Rattle.lf_app.specs.Answers.{Answer, usage, cannot_read, bad_line, bad_frame, over, accepted, document, no_memory, RefusesText, RefusesFrame, RefusesData, passed_by}
+use Rattle.lf_app.specs.Holding.{HoldsPatch}
+use Rattle.lf_app.specs.Answers.{Answer, usage, cannot_read, bad_line, bad_frame, over, accepted, document, no_memory, RefusesText, RefusesFrame, RefusesData}
 use Rattle.lf_app.specs.DataFiles.{StatesPatch, RefusesLines}
 use Rattle.lf_app.specs.FrameFiles.{ReadsFrame}
 

@@ -1,6 +1,5 @@
 -- Texts that are printed in a row: what those still to come add.
-use Rattle.std.proofs.Common.{◌≡◌, ℕ, suc, ◌+◌, ◌<◌, List, Bor, [], ◌∷◌, ◌++◌, length, get_or, map, drop, Option, refl, sym, ap, subst, ◌∙◌, inl, inr, arith, drop-cons}
-use Rattle.std.proofs.lemmas.List.{append-nil}
+use Rattle.std.proofs.Common.{◌≡◌, ℕ, suc, ◌+◌, ◌<◌, List, Bor, [], ◌∷◌, length, get_or, map, drop, Option, refl, sym, ap, ◌∙◌, inl, inr, arith, drop-cons}
 use Rattle.lf_io.specs.Bytes.{appended, AddsPart}
 use Rattle.lf_io.proofs.Told.{appended_nothing, appended_twice, part_of_first, part_of_second}
 use Rattle.lf_io.specs.Faults.{risen}

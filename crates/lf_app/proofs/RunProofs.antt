@@ -1,11 +1,34 @@
 -- A run, from what its command came to.
-use Rattle.std.proofs.Common.{◌≡◌, ℕ, Bool, true, false, List, Option, refl, sym, ap, subst, ◌∙◌}
+use Rattle.std.proofs.Common.{◌≡◌, ℕ, Bool, true, false, List, Option, sym, ap, subst, ◌∙◌}
+use Rattle.lf_io.specs.Files.{Files}
 use Rattle.lf_session.specs.declared.ended.Ended.{Ended}
 use Rattle.lf_app.specs.Words.{Command, command_of}
 use Rattle.lf_app.specs.Answers.{Answer, AnswersTo}
 use Rattle.lf_app.specs.Counting.{faults_after, refusals_after}
 use Rattle.lf_app.specs.Runs.{Run, IsPrinted, Says}
 use Rattle.lf_app.specs.Sessions.{Serves, is_session, RunsAs, IsRun}
+
+-- a run that takes nothing of its input, by what it was given and by what it left
+abbrev pub run_beside : (words : List (List ℕ)) (files : Option Files) (left : Option (List ℕ)) (reads : ℕ) (held : Option (List ℕ)) (writes takes there : ℕ)
+    (status : ℕ) (held_after : Option (List ℕ)) (writes_after takes_after there_after : ℕ) → Run
+run_beside words files left reads held writes takes there status held_after writes_after takes_after there_after =
+    record {
+      words = words;
+      files = files;
+      status = status;
+      left_before = left;
+      left_after = left;
+      held_before = held;
+      held_after = held_after;
+      reads_before = reads;
+      reads_after = reads;
+      writes_before = writes;
+      writes_after = writes_after;
+      takes_before = takes;
+      takes_after = takes_after;
+      there_before = there;
+      there_after = there_after;
+    }
 
 pub says_run : (run : Run) (command : Option Command) (answer : Answer) → command ≡ command_of run.words → is_session command ≡ false
     → AnswersTo run.files command answer

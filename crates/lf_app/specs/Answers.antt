@@ -1,6 +1,6 @@
 -- What `frame`, `check` and refused words come to. The conditions are tried in this order: the words, the frame file, the frame,
 -- the data files one after another, the document.
-use Rattle.std.specs.Prelude.{◌≡◌, ◌⊎◌, ◌≤◌, List, [], ◌∷◌, ◌++◌, ℕ, length, Option, Some, None, Result, Ok, Err}
+use Rattle.std.specs.Prelude.{◌≡◌, ◌⊎◌, ◌≤◌, List, [], ◌∷◌, ℕ, length, Option, Some, None, Result, Ok, Err}
 use Rattle.lf_rdf.specs.declared.quad.Patch.{Patch}
 use Rattle.lf_model.specs.declared.desk.Counted.TheVariants as counted
 use Rattle.lf_model.specs.declared.document.Doc.{Doc}

@@ -1,7 +1,7 @@
 -- What words come to over told files.
 use Rattle.std.specs.Prelude.{◌≡◌, List, ℕ, Some, None}
 use Rattle.lf_io.specs.Files.{Files}
-use Rattle.lf_app.specs.Answers.{Answer, usage, cannot_read, bad_line, bad_frame, over, accepted, document, no_memory, Comes}
+use Rattle.lf_app.specs.Answers.{Answer, cannot_read, no_memory, Comes}
 
 -- Neither is no memory found, nor can a file that is there not be read.
 abbrev pub IsCaused : Files → Answer → Type 0

@@ -1,5 +1,5 @@
 -- Runs of the program: what one was given, and what it left.
-use Rattle.std.specs.Prelude.{◌≡◌, ◌⊎◌, List, ℕ, Option, Some, None}
+use Rattle.std.specs.Prelude.{◌≡◌, ◌⊎◌, List, ℕ, Option}
 use Rattle.lf_io.specs.Bytes.{appended, AddsPart}
 use Rattle.lf_io.specs.Faults.{risen}
 use Rattle.lf_io.specs.Files.{Files}

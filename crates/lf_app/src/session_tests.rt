@@ -1,6 +1,8 @@
+//! Sessions over streams in memory.
 ghost use Rattle.std.specs.Prelude.{◌<◌};
 
 use crate::run_words;
+use itoa::Buffer;
 use lf_base::{ListOf, Memory};
 use lf_io::{Calls, MemoryShelf, MemorySink, MemorySource};
 use std::alloc::Global;
@@ -50,13 +52,9 @@ fn calls(alloc: Global, failing: u64) -> Result<Calls, Memory> {
 }
 
 // The status of a session over this input, and what it sent.
-fn session(alloc: Global, input: &str, streams: &Streams) -> Result<(u8, String), Memory> {
+fn session_of(alloc: Global, input: &[u8], streams: &Streams) -> Result<(u8, String), Memory> {
     let piece = streams.piece.max(1);
-    let mut source = MemorySource::new(
-        input.as_bytes().to_vec(alloc)?,
-        piece,
-        calls(alloc, streams.read)?,
-    );
+    let mut source = MemorySource::new(input.to_vec(alloc)?, piece, calls(alloc, streams.read)?);
     let mut sink = MemorySink::new(alloc, ROOM, piece, calls(alloc, streams.write)?)?;
     let mut shelf = MemoryShelf::new(ListOf::new(alloc), calls(alloc, u64::MAX)?);
     let mut words = Vec::new(alloc);
@@ -67,6 +65,21 @@ fn session(alloc: Global, input: &str, streams: &Streams) -> Result<(u8, String)
         Err(_) => String::new(alloc),
     };
     Ok((status, sent))
+}
+
+fn session(alloc: Global, input: &str, streams: &Streams) -> Result<(u8, String), Memory> {
+    session_of(alloc, input.as_bytes(), streams)
+}
+
+// A request with a body.
+fn sending(alloc: Global, what: &str, body: &str) -> Result<String, Memory> {
+    let mut text = String::new(alloc);
+    text.push_str(what)?;
+    text.push_str(" HTTP/1.1\r\nHost: x\r\nContent-Length: ")?;
+    text.push_str(Buffer::new().format(body.len() as u64))?;
+    text.push_str("\r\n\r\n")?;
+    text.push_str(body)?;
+    Ok(text)
 }
 
 // Texts, one after another.
@@ -346,5 +359,90 @@ fn a_failed_write_ends_the_stream(rt: HostRuntime) -> Result<(), Fail> {
     let (status, sent) = session(alloc, input.as_str(), &streams)?;
     assert_eq!(rt; status, 4);
     assert_eq!(rt; sent.as_str(), "HTTP/1.1 2");
+    Ok(())
+}
+
+#[test]
+fn a_bad_line_leaves_the_version(rt: HostRuntime) -> Result<(), Fail> {
+    let alloc = rt.alloc();
+    let front = "<http://e/a> <http://e/p> \"x\" .\n<http://e/a> <http://e/q> \"y\" .\n";
+    let bad = joined(alloc, &[front, "<http://e/a> <p> \"x\" ."])?;
+    let good = joined(alloc, &[front, "<http://e/a> <http://e/p> \"x\" ."])?;
+    let refused = sending(alloc, "POST /patch", bad.as_str())?;
+    let committed = sending(alloc, "POST /patch", good.as_str())?;
+    let version = "GET /version HTTP/1.1\r\nHost: x\r\n\r\n";
+    let input = joined(alloc, &[refused.as_str(), version, committed.as_str()])?;
+    let wanted = joined(
+        alloc,
+        &[
+            "HTTP/1.1 400 Bad Request\r\nContent-Type: application/json\r\nContent-Length: 33\r\n\r\n{\"error\":\"relative IRI\",\"line\":3}",
+            "HTTP/1.1 200 OK\r\nContent-Type: application/json\r\nLd-Version: 0\r\nContent-Length: 13\r\n\r\n{\"version\":0}",
+            PATCHED,
+        ],
+    )?;
+    let (status, sent) = session(alloc, input.as_str(), &WELL)?;
+    assert_eq!(rt; status, 0);
+    assert_eq!(rt; sent.as_str(), wanted.as_str());
+    Ok(())
+}
+
+// The document of the newest version is an error, and the version that it has is told. Where the quad is deleted it is a text.
+#[test]
+fn an_error_of_a_document_has_its_version(rt: HostRuntime) -> Result<(), Fail> {
+    let alloc = rt.alloc();
+    let frame = "{\"@context\":{\"tag\":\"http://t/\"},\"@id\":\"http://e/a\"}";
+    let first = "<http://e/a> <http://e/n> \"A\" .\n<http://e/a> <http://e/p> <tag:x,1> .\n";
+    let put = sending(alloc, "PUT /frames/a", frame)?;
+    let one = sending(alloc, "POST /patch", first)?;
+    let two = sending(
+        alloc,
+        "POST /patch",
+        "- <http://e/a> <http://e/p> <tag:x,1> .",
+    )?;
+    let input = joined(
+        alloc,
+        &[put.as_str(), one.as_str(), GET_NOW, two.as_str(), GET_NOW],
+    )?;
+    let wanted = joined(
+        alloc,
+        &[
+            CREATED,
+            PATCHED,
+            "HTTP/1.1 422 Unprocessable Content\r\nContent-Type: application/json\r\nLd-Version: 1\r\nContent-Length: 36\r\n\r\n{\"error\":\"IRI confused with prefix\"}",
+            "HTTP/1.1 200 OK\r\nContent-Type: application/json\r\nLd-Version: 2\r\nContent-Length: 13\r\n\r\n{\"version\":2}",
+            "HTTP/1.1 200 OK\r\nContent-Type: application/ld+json\r\nLd-Version: 2\r\nContent-Length: 68\r\n\r\n{\"@context\":{\"tag\":\"http://t/\"},\"@id\":\"http://e/a\",\"http://e/n\":\"A\"}",
+        ],
+    )?;
+    let (status, sent) = session(alloc, input.as_str(), &WELL)?;
+    assert_eq!(rt; status, 0);
+    assert_eq!(rt; sent.as_str(), wanted.as_str());
+    Ok(())
+}
+
+#[test]
+fn a_frame_has_utf8_and_a_length(rt: HostRuntime) -> Result<(), Fail> {
+    let alloc = rt.alloc();
+    let (status, sent) = session_of(
+        alloc,
+        b"PUT /frames/a HTTP/1.1\r\nHost: x\r\nContent-Length: 3\r\n\r\n\"\xff\"",
+        &WELL,
+    )?;
+    assert_eq!(rt; status, 0);
+    assert_eq!(rt;
+        sent.as_str(),
+        "HTTP/1.1 400 Bad Request\r\nContent-Type: application/json\r\nContent-Length: 20\r\n\r\n{\"error\":\"not JSON\"}"
+    );
+    let mut long = String::new(alloc);
+    for _ in 0..65_535u32 {
+        long.push(' ')?;
+    }
+    long.push_str("{}")?;
+    let input = sending(alloc, "PUT /frames/a", long.as_str())?;
+    let (status, sent) = session(alloc, input.as_str(), &WELL)?;
+    assert_eq!(rt; status, 0);
+    assert_eq!(rt;
+        sent.as_str(),
+        "HTTP/1.1 413 Content Too Large\r\nContent-Type: application/json\r\nContent-Length: 41\r\n\r\n{\"error\":\"frame too long\",\"length\":65537}"
+    );
     Ok(())
 }

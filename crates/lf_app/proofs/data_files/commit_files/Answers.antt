@@ -1,4 +1,4 @@
-use Rattle.std.proofs.Common.{rules, ◌≡◌, ◌∷◌, [], ℕ, ◌+◌, List, Option, map, drop, subst, ◌∙◌, string_bytes}
+use Rattle.std.proofs.Common.{rules, ◌≡◌, ◌∷◌, ℕ, ◌+◌, List, Option, map, drop, subst, ◌∙◌, string_bytes}
 use Rattle.lf_io.specs.Files.{Files}
 use Rattle.lf_app.specs.Holding.{IsCommitted}
 use Rattle.lf_app.specs.Answers.{Refuses}

@@ -1,4 +1,4 @@
-use Rattle.std.proofs.Common.{rules, ◌≡◌, ℕ, ◌+◌, ◌<◌, List, Bor, [], ◌∷◌, length, get_or, map, drop, subst, ◌∙◌}
+use Rattle.std.proofs.Common.{rules, ◌≡◌, ℕ, ◌+◌, ◌<◌, List, Bor, [], length, get_or, map, drop, subst, ◌∙◌}
 use Rattle.lf_io.specs.Bytes.{appended, AddsPart}
 use Rattle.lf_app.proofs.Rows.{Prints, prints_next, prints_cut, texts_from}
 use Rattle.lf_app.proofs.print.print_row.Goals as goal

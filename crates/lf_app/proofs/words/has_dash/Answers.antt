@@ -1,7 +1,7 @@
-use Rattle.std.proofs.Common.{rules, ◌≡◌, ◌∷◌, [], ℕ, ◌+◌, Bool, true, false, ◌||◌, List, map, drop, sym, ap, ◌∙◌, string_bytes}
+use Rattle.std.proofs.Common.{rules, ◌≡◌, ◌+◌, false, ◌||◌, map, drop, sym, ap, ◌∙◌, string_bytes}
 use Rattle.std.specs.List.{list_any}
 use Rattle.lf_app.specs.Words.{begins_with_dash}
-use Rattle.lf_app.proofs.Leading.{words_from, no_words_from}
+use Rattle.lf_app.proofs.Leading.{words_from}
 use Rattle.lf_app.proofs.words.has_dash.Goals as goal
 
 pub loop-word-preserved : goal.loop-word-preserved

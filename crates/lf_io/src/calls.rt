@@ -3,12 +3,14 @@ ghost use Rattle.std.specs.Prelude.{◌≡◌, ◌↔◌, IsErr, IsTrue};
 
 use crate::failed::{Failed, one_more};
 
-/// The calls of an object in memory: the numbers of those that fail, counted from 0, how many were made, and how many
-/// failed.
+/// The calls of an object in memory.
 #[derive(Debug, Drop)]
 pub struct Calls {
+    /// The numbers of the calls that fail, counted from 0.
     failing: Vec<u64>,
+    /// How many calls were made.
     made: u64,
+    /// How many calls failed.
     faults: u64,
 }
 

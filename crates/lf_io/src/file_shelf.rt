@@ -12,7 +12,9 @@ use std::rt::Files;
 /// A shelf over the files of the system. It tells nothing of them.
 #[derive(Debug, Drop)]
 pub struct FileShelf<'a, R> {
+    /// The runtime whose files these are.
     rt: &'a R,
+    /// How many takes failed.
     faults: u64,
 }
 

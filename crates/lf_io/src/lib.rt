@@ -26,5 +26,5 @@ pub use memory_source::MemorySource;
 pub use read_source::ReadSource;
 pub use shelf::{Shelf, ShelfErr};
 pub use sink::{Sink, write_all};
-pub use source::{Source, read_all};
+pub use source::{PIECE, Source, read_all};
 pub use write_sink::WriteSink;

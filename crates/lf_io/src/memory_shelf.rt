@@ -11,8 +11,11 @@ use std::alloc::Global;
 /// A shelf of files in memory. Chosen calls of it fail.
 #[derive(Debug, Drop)]
 pub struct MemoryShelf {
+    /// Of several with one name the first counts.
     files: ListOf<File>,
+    /// The takes, of which those with chosen numbers fail.
     calls: Calls,
+    /// How many takes of names that are there failed.
     refusals: u64,
 }
 
@@ -48,22 +51,31 @@ impl Shelf for MemoryShelf {
     fn take(&mut self, alloc: Global, name: &str, limit: u64) -> Result<Vec<u8>, ShelfErr>
         // It fails exactly where this call is one that fails or no file has the name.
         ensures fails { IsErrOf result ShelfErr.Failed
-            ↔ IsTrue (fails_next (shelf_calls self.old) || is_none (by_name (shelf_files self.old) name.now)) }
+            ↔ IsTrue (fails_next (shelf_calls self.old)
+            || is_none (by_name (shelf_files self.old) name.now)) }
         // Memory is wanted only for a file that is there and within the limit.
         ensures memory { IsErrOf result ShelfErr.Memory
-            → (bytes : List ℕ) × (by_name (shelf_files self.old) name.now ≡ Some bytes) × (length bytes ≤ limit) }
-        ensures made { calls_made (shelf_calls self.new) ≡ risen (calls_made (shelf_calls self.old)) }
-        ensures same_calls { failing_calls (shelf_calls self.new) ≡ failing_calls (shelf_calls self.old) }
+            → (bytes : List ℕ) × (by_name (shelf_files self.old) name.now ≡ Some bytes)
+            × (length bytes ≤ limit) }
+        ensures made { calls_made (shelf_calls self.new)
+            ≡ risen (calls_made (shelf_calls self.old)) }
+        ensures same_calls { failing_calls (shelf_calls self.new)
+            ≡ failing_calls (shelf_calls self.old) }
 
         // What a shelf ensures.
-        ensures bytes { IfOk result (λ taken. MayHold (Some (by_name (shelf_files self.old))) name.now taken.items) }
+        ensures bytes { IfOk result (λ taken.
+            MayHold (Some (by_name (shelf_files self.old))) name.now taken.items) }
         ensures within { IfOk result (λ taken. length taken.items ≤ limit) }
         ensures too_long { IsErrOf result ShelfErr.TooLong
-            → (bytes : List ℕ) × MayHold (Some (by_name (shelf_files self.old))) name.now bytes × (limit < length bytes) }
-        ensures unchanged { Some (by_name (shelf_files self.new)) ≡ Some (by_name (shelf_files self.old)) }
-        ensures cause { call_faults (shelf_calls self.new) ≡ count_after_take (call_faults (shelf_calls self.old)) result }
+            → (bytes : List ℕ) × MayHold (Some (by_name (shelf_files self.old))) name.now bytes
+            × (limit < length bytes) }
+        ensures unchanged { Some (by_name (shelf_files self.new))
+            ≡ Some (by_name (shelf_files self.old)) }
+        ensures cause { call_faults (shelf_calls self.new)
+            ≡ count_after_take (call_faults (shelf_calls self.old)) result }
         ensures refusal { shelf_refusals self.new
-            ≡ refusals_after_take (is_there (Some (by_name (shelf_files self.old))) name.now) (shelf_refusals self.old) result }
+            ≡ refusals_after_take (is_there (Some (by_name (shelf_files self.old))) name.now)
+            (shelf_refusals self.old) result }
     {
         let made = self.calls.make();
         match File::find(self.files.as_slice(), name) {

@@ -7,12 +7,17 @@ use crate::sink::Sink;
 use lf_base::Memory;
 use std::alloc::Global;
 
-/// A sink that keeps its bytes, in pieces of a largest length, until its room is full. Chosen calls of it fail.
+/// A sink that keeps its bytes, in pieces of a largest length, until its room is full. Chosen
+/// calls of it fail.
 #[derive(Debug, Drop)]
 pub struct MemorySink {
+    /// All that was written.
     bytes: Vec<u8>,
+    /// How many bytes it holds at most.
     room: usize,
+    /// How many bytes a write takes at most.
     piece: usize,
+    /// The writes, of which those with chosen numbers fail.
     calls: Calls,
     ghost within: { length bytes.items ≤ room },
     ghost taken: { room ≤ vec_capacity bytes },
@@ -57,20 +62,26 @@ impl Sink for MemorySink {
     ghost faults = { λ s. call_faults s.calls };
 
     fn write(&mut self, bytes: &[u8]) -> Result<usize, Failed>
-        // It fails exactly where this call is one that fails or nothing fits, and else takes the longest piece that fits.
-        ensures fails { IsErr result ↔ IsTrue (fails_next (sink_calls self.old) || not (piece_fits self.old bytes.now)) }
-        ensures piece { IfOk result (λ n. n ≡ min (min (sink_piece self.old) (length bytes.now)) (room_of self.old - length (bytes_held self.old))) }
+        // It fails exactly where this call is one that fails or nothing fits, and else takes the
+        // longest piece that fits.
+        ensures fails { IsErr result
+            ↔ IsTrue (fails_next (sink_calls self.old) || not (piece_fits self.old bytes.now)) }
+        ensures piece { IfOk result (λ n. n ≡ min (min (sink_piece self.old) (length bytes.now))
+            (room_of self.old - length (bytes_held self.old))) }
         ensures same_piece { sink_piece self.new ≡ sink_piece self.old }
         ensures same_room { room_of self.new ≡ room_of self.old }
         ensures made { calls_made (sink_calls self.new) ≡ risen (calls_made (sink_calls self.old)) }
-        ensures same_calls { failing_calls (sink_calls self.new) ≡ failing_calls (sink_calls self.old) }
+        ensures same_calls { failing_calls (sink_calls self.new)
+            ≡ failing_calls (sink_calls self.old) }
 
         // What a sink ensures.
         ensures within { IfOk result (λ n. n ≤ length bytes.now) }
         ensures some { IfOk result (λ n. 0 < length bytes.now → 0 < n) }
-        ensures bytes { IfOk result (λ n. Some (bytes_held self.new) ≡ appended (Some (bytes_held self.old)) (take n bytes.now)) }
+        ensures bytes { IfOk result (λ n. Some (bytes_held self.new)
+            ≡ appended (Some (bytes_held self.old)) (take n bytes.now)) }
         ensures unchanged { OnErr result (Some (bytes_held self.new) ≡ Some (bytes_held self.old)) }
-        ensures cause { call_faults (sink_calls self.new) ≡ count_after (call_faults (sink_calls self.old)) result }
+        ensures cause { call_faults (sink_calls self.new)
+            ≡ count_after (call_faults (sink_calls self.old)) result }
     {
         self.calls.make()?;
         let count = self

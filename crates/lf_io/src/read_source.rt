@@ -14,8 +14,11 @@ const TRIES: u32 = 1 << 20;
 /// A source over a reader of std. It counts its bytes and tells nothing of what is left.
 #[derive(Debug, Drop)]
 pub struct ReadSource<R> {
+    /// The reader.
     inner: R,
+    /// How many bytes were taken of it.
     taken: u64,
+    /// How many reads failed.
     faults: u64,
 }
 

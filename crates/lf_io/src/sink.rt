@@ -20,8 +20,10 @@ pub trait Sink {
         // A write that takes nothing of a piece that isn't empty is a failed one.
         ensures some { IfOk result (λ n. 0 < length bytes.now → 0 < n) }
 
-        // The bytes that were taken stand last, and a sink that tells what it holds goes on telling it.
-        ensures bytes { IfOk result (λ n. held self.new ≡ appended (held self.old) (take n bytes.now)) }
+        // The bytes that were taken stand last, and a sink that tells what it holds goes on telling
+        // it.
+        ensures bytes { IfOk result (λ n. held self.new
+            ≡ appended (held self.old) (take n bytes.now)) }
 
         // A failed write adds nothing.
         ensures unchanged { OnErr result (held self.new ≡ held self.old) }
@@ -30,8 +32,8 @@ pub trait Sink {
         ensures cause { faults self.new ≡ count_after (faults self.old) result };
 }
 
-#[tactic(auto, using(crate::proofs::Told::appended_nothing, crate::proofs::Told::appended_next, crate::proofs::Told::appended_whole))]
 /// Writes all the bytes, piece by piece. Where a write fails, the pieces before it stand.
+#[tactic(auto, using(crate::proofs::Told::appended_nothing, crate::proofs::Told::appended_next, crate::proofs::Told::appended_whole))]
 pub fn write_all<K: Sink>(sink: &mut K, bytes: &[u8]) -> Result<(), Failed>
     ensures written { OnOk result (K.held sink.new ≡ appended (K.held sink.old) bytes.now) }
     ensures cut_short { OnErr result ((n : ℕ) × (n < length bytes.now)

@@ -8,8 +8,8 @@ use crate::failed::Failed;
 use crate::shelf::ShelfErr;
 use std::alloc::Global;
 
-/// How many bytes are read at once.
-const PIECE: usize = 4096;
+/// How many bytes are read at once, here and where messages are read.
+pub const PIECE: usize = 4096;
 
 /// Where bytes come from.
 pub trait Source {
@@ -22,12 +22,15 @@ pub trait Source {
     /// How often a read failed.
     ghost faults: { Self → ℕ };
 
-    /// Takes bytes from the front of what is left. 0 bytes into a buffer that has room are the end of the input.
+    /// Takes bytes from the front of what is left. 0 bytes into a buffer that has room are the end
+    /// of the input.
     fn read(&mut self, buf: &mut [u8]) -> Result<usize, Failed>
         ensures within { IfOk result (λ n. n ≤ length buf.new) }
 
-        // The bytes that were taken stood first, and a source that tells what is left goes on telling it.
-        ensures bytes { IfOk result (λ n. left self.old ≡ prepended (take n buf.new) (left self.new)) }
+        // The bytes that were taken stood first, and a source that tells what is left goes on
+        // telling it.
+        ensures bytes { IfOk result (λ n. left self.old
+            ≡ prepended (take n buf.new) (left self.new)) }
         ensures count { IfOk result (λ n. taken self.new ≡ taken self.old + n) }
 
         // Where what is left is told, the end comes exactly where nothing is left.
@@ -45,17 +48,20 @@ pub trait Source {
         ensures cause { faults self.new ≡ count_after (faults self.old) result };
 }
 
-#[tactic(auto, using(crate::proofs::Told::prepended_nothing, crate::proofs::Told::prepended_twice))]
 /// All the bytes that are left, where they are at most `limit` many.
+#[tactic(auto, using(crate::proofs::Told::prepended_nothing, crate::proofs::Told::prepended_twice))]
 pub fn read_all<S: Source>(alloc: Global, source: &mut S, limit: u64) -> Result<Vec<u8>, ShelfErr>
-    ensures bytes { IfOk result (λ bytes. S.left source.old ≡ prepended bytes.items (S.left source.new)) }
+    ensures bytes { IfOk result (λ bytes. S.left source.old
+        ≡ prepended bytes.items (S.left source.new)) }
     ensures ended { OnOk result (HasEnded (S.left source.new)) }
-    ensures count { IfOk result (λ bytes. S.taken source.new ≡ S.taken source.old + length bytes.items) }
+    ensures count { IfOk result (λ bytes. S.taken source.new
+        ≡ S.taken source.old + length bytes.items) }
     ensures within { IfOk result (λ bytes. length bytes.items ≤ limit) }
 
     // `TooLong` comes exactly where more than `limit` bytes were read.
     ensures too_long { IsErrOf result ShelfErr.TooLong → (bytes : List ℕ) × (limit < length bytes)
-        × (S.left source.old ≡ prepended bytes (S.left source.new)) × (S.taken source.new ≡ S.taken source.old + length bytes) }
+        × (S.left source.old ≡ prepended bytes (S.left source.new))
+        × (S.taken source.new ≡ S.taken source.old + length bytes) }
     ensures cause { S.faults source.new ≡ count_after_take (S.faults source.old) result }
 {
     let mut bytes = Vec::new(alloc);

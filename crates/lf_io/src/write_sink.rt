@@ -11,7 +11,9 @@ const TRIES: u32 = 1 << 20;
 /// A sink over a writer of std. It tells nothing of what it holds.
 #[derive(Debug, Drop)]
 pub struct WriteSink<W> {
+    /// The writer.
     inner: W,
+    /// How many writes failed.
     faults: u64,
 }
 

@@ -13,7 +13,7 @@ use Rattle.lf_io.specs.Bytes.{prepended, HasEnded}
 use Rattle.lf_http.specs.declared.head.HeadErr.{HeadErr}
 use Rattle.lf_http.specs.declared.head.HeadErr.TheVariants.{ReadFault, CutShort, TooLarge, BadHead, LengthNeeded, BodyTooLong, Expectation}
 use Rattle.lf_http.specs.Judge.{judged, request_of}
-use Rattle.lf_http.specs.Reading.{IsOpen, LacksHead, IsRefused, IsBeyond}
+use Rattle.lf_http.specs.Reading.{IsOpen, LacksHead, IsRefused, IsBeyond, longest_head, most_lines}
 
 -- a head that is no longer than the bytes stands in them
 within : (bytes more front rest : List ℕ) → bytes ++ more ≡ front ++ rest → length front ≤ length bytes
@@ -48,16 +48,16 @@ nothing_read h rest reads =
 
 -- a head within the limits leaves no cause to answer that there is none
 not_lacking : (bytes more rest : List ℕ) (h : RequestHead) (e : HeadErr)
-    → ReadsRequest (bytes ++ more) h rest → length (print_request h) ≤ 16384 → length h.fields ≤ 64
+    → ReadsRequest (bytes ++ more) h rest → length (print_request h) ≤ longest_head → length h.fields ≤ most_lines
     → (e ≡ ReadFault → ⊥) → LacksHead bytes (Some more) e → ⊥
 not_lacking bytes more rest h ReadFault reads short few read lacks = read refl
 not_lacking bytes more rest h CutShort reads short few read lacks =
     lacks.1.0 h rest (subst (λ (all : List ℕ). ReadsRequest all h rest) (ap (λ (m : List ℕ). bytes ++ m) lacks.2 ∙ append-nil bytes) reads)
 not_lacking bytes more rest h TooLarge reads short few read lacks = over lacks
   where
-    over : ((length bytes ≡ 16384) × IsOpen bytes) ⊎ (RequestExceeds 64 bytes × RequestOverflows 64 bytes) → ⊥
+    over : ((length bytes ≡ longest_head) × IsOpen bytes) ⊎ (RequestExceeds most_lines bytes × RequestOverflows most_lines bytes) → ⊥
     over (inl full) = too_long bytes more rest h full.1.0 (omega (arith, full.0)) reads
-    over (inr many) = let more_lines : 64 < length h.fields = many.1 more h rest reads in omega arith
+    over (inr many) = let more_lines : most_lines < length h.fields = many.1 more h rest reads in omega arith
 not_lacking bytes more rest h BadHead reads short few read lacks = lacks more h rest reads
 not_lacking bytes more rest h LengthNeeded reads short few read lacks = lacks
 not_lacking bytes more rest h BodyTooLong reads short few read lacks = lacks
@@ -65,7 +65,7 @@ not_lacking bytes more rest h Expectation reads short few read lacks = lacks
 
 -- the refusal of a head within the limits is its own
 pub found-refused : (stream rest bytes more : List ℕ) (h : RequestHead) (e : HeadErr)
-    → stream ≡ bytes ++ more → ReadsRequest stream h rest → length (print_request h) ≤ 16384 → length h.fields ≤ 64
+    → stream ≡ bytes ++ more → ReadsRequest stream h rest → length (print_request h) ≤ longest_head → length h.fields ≤ most_lines
     → (e ≡ ReadFault → ⊥) → IsRefused bytes (Some more) e → judged (request_of h) ≡ Err e
 found-refused stream rest bytes more h e is reads short few read refused = by refused
   where
@@ -90,7 +90,7 @@ found-none stream rest h is reads = nothing_read h rest (subst (λ (all : List �
 
 -- The same, where what is left is told at the beginning.
 pub refused_is : (stream rest bytes : List ℕ) (left : Option (List ℕ)) (h : RequestHead) (e : HeadErr)
-    → Some stream ≡ prepended bytes left → ReadsRequest stream h rest → length (print_request h) ≤ 16384 → length h.fields ≤ 64
+    → Some stream ≡ prepended bytes left → ReadsRequest stream h rest → length (print_request h) ≤ longest_head → length h.fields ≤ most_lines
     → (e ≡ ReadFault → ⊥) → IsRefused bytes left e → judged (request_of h) ≡ Err e
 refused_is stream rest bytes None h e is reads short few read refused = absurd (none-some stream (sym is))
 refused_is stream rest bytes (Some more) h e is reads short few read refused =
@@ -115,15 +115,15 @@ not_none stream rest (Some more) h is ended reads = found-none stream rest h (so
 
 -- beside a whole head there is no cause to answer that there is none
 not_beside : (bytes rest : List ℕ) (left : Option (List ℕ)) (h : RequestHead) (e : HeadErr)
-    → ReadsRequest bytes h rest → length h.fields ≤ 64 → LacksHead bytes left e → ⊥
+    → ReadsRequest bytes h rest → length h.fields ≤ most_lines → LacksHead bytes left e → ⊥
 not_beside bytes rest left h ReadFault reads few lacks = lacks.0 h rest reads
 not_beside bytes rest left h CutShort reads few lacks = lacks.1.0 h rest reads
 not_beside bytes rest left h TooLarge reads few lacks = over lacks
   where
-    over : ((length bytes ≡ 16384) × IsOpen bytes) ⊎ (RequestExceeds 64 bytes × RequestOverflows 64 bytes) → ⊥
+    over : ((length bytes ≡ longest_head) × IsOpen bytes) ⊎ (RequestExceeds most_lines bytes × RequestOverflows most_lines bytes) → ⊥
     over (inl full) = full.1.0 h rest reads
     over (inr many) =
-        let more_lines : 64 < length h.fields =
+        let more_lines : most_lines < length h.fields =
         many.1 [] h rest (subst (λ (all : List ℕ). ReadsRequest all h rest) (sym (append-nil bytes)) reads) in omega arith
 not_beside bytes rest left h BadHead reads few lacks =
     lacks [] h rest (subst (λ (all : List ℕ). ReadsRequest all h rest) (sym (append-nil bytes)) reads)
@@ -133,7 +133,7 @@ not_beside bytes rest left h Expectation reads few lacks = lacks
 
 -- the refusal of a whole head is its own
 pub own_refusal : (bytes rest : List ℕ) (left : Option (List ℕ)) (h : RequestHead) (e : HeadErr)
-    → ReadsRequest bytes h rest → length h.fields ≤ 64 → IsRefused bytes left e → judged (request_of h) ≡ Err e
+    → ReadsRequest bytes h rest → length h.fields ≤ most_lines → IsRefused bytes left e → judged (request_of h) ≡ Err e
 own_refusal bytes rest left h e reads few refused = by refused
   where
     by : IsRefused bytes left e → judged (request_of h) ≡ Err e
@@ -185,8 +185,8 @@ many_lines bytes rest left h Expectation reads lacks = absurd lacks
 
 -- a head that was found is within the limits
 pub within_limits : (bytes : List ℕ) (lines : List HeaderSpan) (spans : RequestSpans) (k : RequestHead)
-    → IsRequestAt bytes lines spans k → IsRequestWithin bytes lines spans → length lines ≡ 64 → length bytes ≤ 16384
-    → (length (print_request k) ≤ 16384) × (length k.fields ≤ 64)
+    → IsRequestAt bytes lines spans k → IsRequestWithin bytes lines spans → length lines ≡ most_lines → length bytes ≤ longest_head
+    → (length (print_request k) ≤ longest_head) × (length k.fields ≤ most_lines)
 within_limits bytes lines spans k at inside room short =
     let fits : spans.len ≤ length bytes = inside.section.len_fits in
     let whole : spans.len ≡ length (print_request k) = at.len in
@@ -196,7 +196,7 @@ within_limits bytes lines spans k at inside room short =
     sym (length-map (take spans.headers lines) (header_bytes bytes)) ∙ same ∙ length-map k.fields name_and_value in
     (omega arith, grind (arith, common_steps, taken, few, room))
 
-pub not_beyond : (h k : RequestHead) → h ≡ k → (length (print_request k) ≤ 16384) × (length k.fields ≤ 64)
+pub not_beyond : (h k : RequestHead) → h ≡ k → (length (print_request k) ≤ longest_head) × (length k.fields ≤ most_lines)
     → IsBeyond h → ⊥
 not_beyond h k same (short, few) (inl longer) =
     let other : length (print_request h) ≡ length (print_request k) = ap (λ (x : RequestHead). length (print_request x)) same in
@@ -211,7 +211,7 @@ last_none (b ∷ front) bytes is = absurd cc
 
 -- where a part of a head within the limits is all that there is, that is the cause
 only_cut : (bytes more lacking : List ℕ) (h : RequestHead) (e : HeadErr)
-    → ReadsRequest (bytes ++ (more ++ lacking)) h [] → length (print_request h) ≤ 16384 → length h.fields ≤ 64
+    → ReadsRequest (bytes ++ (more ++ lacking)) h [] → length (print_request h) ≤ longest_head → length h.fields ≤ most_lines
     → (e ≡ ReadFault → ⊥) → LacksHead bytes (Some more) e → e ≡ CutShort
 only_cut bytes more lacking h ReadFault reads short few read lacks = absurd (read refl)
 only_cut bytes more lacking h CutShort reads short few read lacks = refl
@@ -225,7 +225,7 @@ only_cut bytes more lacking h Expectation reads short few read lacks = absurd la
 
 found-cut : (stream bytes more lacking : List ℕ) (h : RequestHead) (e : HeadErr)
     → stream ≡ bytes ++ more → ReadsRequest (stream ++ lacking) h [] → (lacking ≡ [] → ⊥)
-    → length (print_request h) ≤ 16384 → length h.fields ≤ 64
+    → length (print_request h) ≤ longest_head → length h.fields ≤ most_lines
     → (e ≡ ReadFault → ⊥) → IsRefused bytes (Some more) e → e ≡ CutShort
 found-cut stream bytes more lacking h e is reads some short few read refused = by refused
   where
@@ -243,7 +243,7 @@ found-cut stream bytes more lacking h e is reads some short few read refused = b
 
 pub cut_is : (stream lacking bytes : List ℕ) (left : Option (List ℕ)) (h : RequestHead) (e : HeadErr)
     → Some stream ≡ prepended bytes left → ReadsRequest (stream ++ lacking) h [] → (lacking ≡ [] → ⊥)
-    → length (print_request h) ≤ 16384 → length h.fields ≤ 64
+    → length (print_request h) ≤ longest_head → length h.fields ≤ most_lines
     → (e ≡ ReadFault → ⊥) → IsRefused bytes left e → e ≡ CutShort
 cut_is stream lacking bytes None h e is reads some short few read refused = absurd (none-some stream (sym is))
 cut_is stream lacking bytes (Some more) h e is reads some short few read refused =

@@ -2,7 +2,7 @@
 use Rattle.std.proofs.Common.{◌≡◌, ◌≤◌, ◌+◌, ◌⊎◌, inl, inr, ◌∙◌, ℕ, List, [], ◌∷◌, ◌++◌, refl, ap, sym, subst, arith, length, take, drop, append_assoc}
 use Rattle.std.proofs.lemmas.List.{append-nil, take-append-drop, length-drop}
 use Rattle.httparse.proofs.OpenLemmas.{line_blank, request_may_from_line}
-use Rattle.lf_http.specs.Reading.{IsOpen, ReadsOn}
+use Rattle.lf_http.specs.Reading.{IsOpen, ReadsOn, longest_piece}
 use Rattle.lf_http.proofs.Found.{nothing_read}
 
 -- no bytes may still become a head
@@ -20,7 +20,7 @@ reads_behind pending bytes (inr (more, last, is, short, open_before)) = (more ++
 
 -- one more piece behind bytes that may still become a head
 pub reads_further : (first pending bytes : List ℕ) (n : ℕ) → ReadsOn first pending → IsOpen pending
-    → take (length pending) bytes ≡ pending → length bytes ≡ length pending + n → n ≤ 4096 → ReadsOn first bytes
+    → take (length pending) bytes ≡ pending → length bytes ≡ length pending + n → n ≤ longest_piece → ReadsOn first bytes
 reads_further first pending bytes n before is_open kept longer short = further (reads_behind first pending before)
   where
     last : List ℕ

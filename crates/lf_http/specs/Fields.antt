@@ -20,9 +20,14 @@ abbrev pub values : List ℕ → List (List ℕ × List ℕ) → List (List ℕ)
 values name [] = []
 values name (line ∷ lines) = if same_name line.0 name then line.1 ∷ values name lines else values name lines
 
+-- the most digits of a number, so that it is below 2^63
+abbrev pub most_digits : ℕ
+most_digits = 18
+
 -- 1 to 18 decimal digits
 abbrev pub is_number : List ℕ → Bool
-is_number value = nat_le 1 (length value) && nat_le (length value) 18 && list_all is_ascii_digit value
+is_number value =
+    nat_le 1 (length value) && nat_le (length value) most_digits && list_all is_ascii_digit value
 
 -- the number of a value of 1 to 18 decimal digits
 abbrev pub number : List ℕ → Option ℕ

@@ -18,6 +18,10 @@ use Rattle.lf_http.specs.declared.head.HeadErr.TheVariants as refusal
 abbrev pub is_text : List ℕ → List ℕ → Bool
 is_text = pointwise nat_eq
 
+-- the front of a target that names a frame
+abbrev pub frames_path : List ℕ
+frames_path = codes "/frames/"
+
 -- the method, which is compared with case (RFC 9110, section 9.1)
 unfoldable pub method_of : List ℕ → Method
 method_of name =
@@ -31,7 +35,7 @@ method_of name =
 -- the target, byte for byte
 unfoldable pub target_of : List ℕ → Target
 target_of path =
-    if starts_with nat_eq path (codes "/frames/") then target.FrameAt
+    if starts_with nat_eq path frames_path then target.FrameAt
     else if is_text path (codes "/patch") then target.PatchAt
     else if is_text path (codes "/version") then target.VersionAt
     else target.NoTarget
@@ -50,7 +54,12 @@ request_of h =
 -- the same parts, where spans of a buffer cover them
 abbrev pub request_at : List ℕ → RequestSpans → List HeaderSpan → Request
 request_at buf spans lines =
-    record { method = span_bytes buf spans.method; target = span_bytes buf spans.path; minor = spans.version; lines = map (header_bytes buf) lines }
+    record {
+      method = span_bytes buf spans.method;
+      target = span_bytes buf spans.path;
+      minor = spans.version;
+      lines = map (header_bytes buf) lines;
+    }
 
 -- the values of the lines of this name
 abbrev pub line_values : Request → List ℕ → List (List ℕ)

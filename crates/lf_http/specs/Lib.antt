@@ -4,4 +4,5 @@ pub mod Judge
 pub mod Reading
 pub mod Readings
 pub mod Reply
+pub mod ShortText
 pub mod Shown

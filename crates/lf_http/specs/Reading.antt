@@ -1,5 +1,5 @@
 -- How a head is read from the front of a stream.
-use Rattle.std.specs.Prelude.{◌^◌, ◌+◌, ◌-◌, ◌≡◌, ◌<◌, ◌≤◌, ◌⊎◌, List, [], ◌++◌, ℕ, length, drop, codes, nat_eq, Option, Some, Result, Ok, Err, if◌then◌else◌}
+use Rattle.std.specs.Prelude.{◌^◌, ◌+◌, ◌-◌, ◌≡◌, ◌<◌, ◌≤◌, ◌⊎◌, List, [], ◌++◌, ℕ, length, drop, nat_eq, Option, Some, Result, Ok, Err, if◌then◌else◌}
 use Rattle.std.specs.List.{starts_with}
 use Rattle.httparse.specs.Grammar.{RequestHead, print_request, ReadsRequest, HasNoRequest, NeverHasRequest, MayBecomeRequest}
 use Rattle.httparse.specs.Spans.{RequestOverflows, RequestExceeds}
@@ -8,7 +8,7 @@ use Rattle.lf_io.specs.Faults.{risen}
 use Rattle.lf_http.specs.declared.head.Head.{Head}
 use Rattle.lf_http.specs.declared.head.HeadErr.{HeadErr}
 use Rattle.lf_http.specs.declared.head.HeadErr.TheVariants.{ReadFault, CutShort, TooLarge, BadHead, LengthNeeded, BodyTooLong, Expectation}
-use Rattle.lf_http.specs.Judge.{request_of, judged}
+use Rattle.lf_http.specs.Judge.{request_of, judged, frames_path}
 
 -- the longest head in bytes, with the empty lines before it
 abbrev pub longest_head : ℕ
@@ -57,7 +57,7 @@ IsRefused bytes left e = LacksHead bytes left e ⊎ HasRefusedHead bytes e
 
 -- what a target names: all of it behind `/frames/`
 abbrev pub name_of : List ℕ → List ℕ
-name_of target = if starts_with nat_eq target (codes "/frames/") then drop 8 target else []
+name_of target = if starts_with nat_eq target frames_path then drop (length frames_path) target else []
 
 -- the count of a source's faults after a head was read with this answer: it rises exactly where a read failed
 abbrev pub count_after_head : {A : Type 0} → ℕ → Result A HeadErr → ℕ

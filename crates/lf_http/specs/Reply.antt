@@ -20,7 +20,6 @@ reason status =
     else if nat_eq status 417 then Some (codes "Expectation Failed")
     else if nat_eq status 422 then Some (codes "Unprocessable Content")
     else if nat_eq status 431 then Some (codes "Request Header Fields Too Large")
-    else if nat_eq status 501 then Some (codes "Not Implemented")
     else if nat_eq status 503 then Some (codes "Service Unavailable")
     else if nat_eq status 507 then Some (codes "Insufficient Storage")
     else None

@@ -6,11 +6,8 @@ ghost use Rattle.lf_http.specs.Reading.{to_come};
 
 use crate::buffers::{Buffers, drop_front};
 use lf_base::Memory;
-use lf_io::{Failed, Source};
+use lf_io::{Failed, PIECE, Source};
 use thiserror::Error;
-
-/// How many bytes are read at once.
-const PIECE: usize = 4096;
 
 /// Why no body was read.
 #[derive(Clone, Copy, Debug, PartialEq, Eq, Error)]
@@ -37,13 +34,14 @@ impl From<Memory> for BodyErr {
     }
 }
 
-// Reads pieces behind the body until it has its length. The room of a piece is taken before the piece is read, so that no
-// byte is lost for want of memory.
+// Reads pieces behind the body until it has its length. The room of a piece is taken before the
+// piece is read, so that no byte is lost for want of memory.
 #[tactic(auto, using(lf_io::proofs::Told::prepended_nothing, lf_io::proofs::Told::prepended_twice))]
 fn fill<S: Source>(source: &mut S, body: &mut Vec<u8>, count: usize) -> Result<(), BodyErr>
     requires { length body.old.items ≤ count }
     ensures whole { OnOk result (length body.new.items ≡ count) }
-    ensures bytes { prepended body.old.items (S.left source.old) ≡ prepended body.new.items (S.left source.new) }
+    ensures bytes { prepended body.old.items (S.left source.old)
+        ≡ prepended body.new.items (S.left source.new) }
     ensures cut { IsErrOf result BodyErr.CutShort → length body.new.items < count }
     ensures faulted { IsErrOf result BodyErr.ReadFault → length body.new.items < count }
     ensures end { IsErrOf result BodyErr.CutShort → HasEnded (S.left source.new) }
@@ -112,15 +110,19 @@ pub fn read_body<S: Source>(
     ensures cut { IsErrOf result BodyErr.CutShort → length buffers.new.body < count }
     ensures end { IsErrOf result BodyErr.CutShort → HasEnded (S.left source.new) }
     ensures all { IsErrOf result BodyErr.CutShort
-        → prepended buffers.old.pending (S.left source.old) ≡ prepended buffers.new.body (S.left source.new) }
+        → prepended buffers.old.pending (S.left source.old)
+        ≡ prepended buffers.new.body (S.left source.new) }
 
     // Where a read failed, the body isn't whole, and all bytes that were taken stand in it.
     ensures faulted { IsErrOf result BodyErr.ReadFault → length buffers.new.body < count }
     ensures faulted_all { IsErrOf result BodyErr.ReadFault
-        → prepended buffers.old.pending (S.left source.old) ≡ prepended buffers.new.body (S.left source.new) }
+        → prepended buffers.old.pending (S.left source.old)
+        ≡ prepended buffers.new.body (S.left source.new) }
 
-    // Where the source tells what is left, the answer follows from it, unless a read failed or memory was missing.
-    ensures told { (told : List ℕ) → S.left source.old ≡ Some told → ReadsBody count (buffers.old.pending ++ told) buffers.new.body result }
+    // Where the source tells what is left, the answer follows from it, unless a read failed or
+    // memory was missing.
+    ensures told { (told : List ℕ) → S.left source.old ≡ Some told
+        → ReadsBody count (buffers.old.pending ++ told) buffers.new.body result }
 
     // Memory is wanted only for a body that isn't empty.
     ensures some { IsErrOf result BodyErr.Memory → 0 < count }
@@ -129,7 +131,8 @@ pub fn read_body<S: Source>(
     ensures unread { count ≤ length buffers.old.pending → source.new ≡ source.old }
 
     // Reading leaves no more to come.
-    ensures fewer { to_come (S.taken source.new) buffers.new.pending ≤ to_come (S.taken source.old) buffers.old.pending }
+    ensures fewer { to_come (S.taken source.new) buffers.new.pending
+        ≤ to_come (S.taken source.old) buffers.old.pending }
 
     // `ReadFault` comes exactly where a read failed.
     ensures cause { S.faults source.new ≡ count_after_body (S.faults source.old) result }

@@ -3,8 +3,8 @@ ghost use Rattle.std.specs.Prelude.{◌≡◌, ◌≤◌, [], length, drop, vec_
 ghost use Rattle.lf_http.specs.Reply.{is_named, reply_text};
 ghost use Rattle.lf_http.specs.Reading.{longest_head, most_lines};
 
-use crate::reply::{ReplyBytes, ReplyHead, write_reply};
-use arrayvec::ArrayVec;
+use crate::reply::{ReplyHead, write_reply};
+use crate::short_text::ShortText;
 use httparse::spans::{EMPTY_HEADER_SPAN, HeaderSpan};
 use lf_base::Memory;
 use std::alloc::Global;
@@ -19,11 +19,16 @@ pub(crate) const MOST_LINES: usize = 64;
 /// The memory in which the heads and bodies of one stream are read and its reply heads written.
 #[derive(Drop)]
 pub struct Buffers {
+    /// The bytes that were read and not yet used, at most 16,384, with room for as many.
     pub(crate) pending: Vec<u8>,
+    /// Where `httparse` writes which bytes a head's lines are: 64 places at all times.
     pub(crate) lines: Vec<HeaderSpan>,
+    /// All of the last accepted head's target behind `/frames/`, with room for 16,384 bytes.
     pub(crate) name: String,
+    /// The last body that was read, or the part of it that came.
     pub(crate) body: Vec<u8>,
-    reply: ReplyBytes,
+    /// The last reply head.
+    reply: ShortText,
 }
 
 impl Model for Buffers {
@@ -34,10 +39,17 @@ impl Model for Buffers {
 
     ghost Value = { Shown };
 
-    ghost view = { λ b. record { pending = b.pending.items; name = string_bytes b.name; body = b.body.items; reply = b.reply.items } };
+    ghost view = { λ b. record {
+      pending = b.pending.items;
+      name = string_bytes b.name;
+      body = b.body.items;
+      reply = b.reply.items;
+    } };
 
-    ghost invariant = { λ b. (longest_head ≤ vec_capacity b.pending) × (length b.pending.items ≤ longest_head)
-        × (length b.lines.items ≡ most_lines) × (longest_head ≤ string_capacity b.name) };
+    ghost invariant = { λ b. (longest_head ≤ vec_capacity b.pending)
+        × (length b.pending.items ≤ longest_head)
+        × (length b.lines.items ≡ most_lines)
+        × (longest_head ≤ string_capacity b.name) };
 }
 
 impl Buffers {
@@ -50,7 +62,7 @@ impl Buffers {
             lines: Vec::from_elem(alloc, EMPTY_HEADER_SPAN, MOST_LINES)?,
             name: String::with_capacity(alloc, LONGEST_HEAD)?,
             body: Vec::new(alloc),
-            reply: ArrayVec::new(),
+            reply: ShortText::new(),
         })
     }
 

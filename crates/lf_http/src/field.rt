@@ -4,11 +4,12 @@ ghost use Rattle.httparse.specs.Spans.{header_bytes, span_bytes};
 ghost use Rattle.lf_http.specs.Fields.{same_name, values};
 ghost use Rattle.lf_http.specs.Reading.{most_lines};
 
+use crate::buffers::MOST_LINES;
 use arrayvec::ArrayVec;
 use httparse::spans::{HeaderSpan, Span};
 
 /// The values of the header lines of one name.
-pub(crate) type Values = ArrayVec<Span, 64>;
+pub(crate) type Values = ArrayVec<Span, MOST_LINES>;
 
 /// Whether the texts are one, compared without case.
 pub(crate) fn is_same_name(written: &[u8], name: &[u8]) -> bool
@@ -29,7 +30,8 @@ pub(crate) fn bytes_of(buf: &[u8], span: Span) -> &[u8]
 /// The values of the lines of this name.
 pub(crate) fn values_of(buf: &[u8], lines: &[HeaderSpan], name: &[u8]) -> Values
     requires { length lines.now ≤ most_lines }
-    ensures { map (span_bytes buf.now) result.items ≡ values name.now (map (header_bytes buf.now) lines.now) }
+    ensures { map (span_bytes buf.now) result.items
+        ≡ values name.now (map (header_bytes buf.now) lines.now) }
 {
     let mut found = ArrayVec::new();
     for line in lines {

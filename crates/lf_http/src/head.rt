@@ -28,7 +28,9 @@ pub enum Target {
 /// What the head of an accepted request says.
 #[derive(Clone, Copy, Debug, PartialEq, Eq)]
 pub struct Head {
+    /// Compared with case.
     pub method: Method,
+    /// Compared byte for byte.
     pub target: Target,
     /// The length of the body in bytes, 0 without `Content-Length`.
     pub length: u64,

@@ -1,4 +1,5 @@
-//! A head that `httparse` read is judged: its first refusal, or what it says.
+//! A head that `httparse` read is judged: its first refusal, or what it says. `read_head` calls
+//! `judge`.
 ghost use Rattle.std.specs.Prelude.{◌≡◌, ◌≤◌, ℕ, length, map};
 ghost use Rattle.std.specs.List.{list_all, list_any};
 ghost use Rattle.httparse.specs.Grammar.{RequestHead};
@@ -16,6 +17,10 @@ use httparse::spans::{HeaderSpan, RequestSpans, Span};
 /// The longest body in bytes.
 const LONGEST_BODY: u64 = 67_108_864;
 
+/// The front of a target that names a frame.
+pub(crate) const FRAMES_PATH: &[u8] = b"/frames/";
+
+// The method, which is compared with case.
 #[tactic(auto, unfolding(crate::specs::Judge::method_of))]
 fn read_method(name: &[u8]) -> Method
     ensures { result ≡ method_of name.now }
@@ -35,11 +40,12 @@ fn read_method(name: &[u8]) -> Method
     }
 }
 
+// What the target is about, byte for byte.
 #[tactic(auto, unfolding(crate::specs::Judge::target_of))]
 fn read_target(path: &[u8]) -> Target
     ensures { result ≡ target_of path.now }
 {
-    if path.starts_with(b"/frames/") {
+    if path.starts_with(FRAMES_PATH) {
         Target::FrameAt
     } else if path == b"/patch".as_slice() {
         Target::PatchAt
@@ -50,12 +56,14 @@ fn read_target(path: &[u8]) -> Target
     }
 }
 
+// Whether a value is 1 to 18 decimal digits.
 fn is_decimal_at(buf: &[u8], span: Span) -> bool
     ensures { result ≡ is_number (span_bytes buf.now span) }
 {
     is_decimal(bytes_of(buf, span))
 }
 
+// Whether each of the values is.
 fn all_decimal(buf: &[u8], values: &Values) -> bool
     ensures { result ≡ list_all is_number (map (span_bytes buf.now) values.now.items) }
 {
@@ -65,20 +73,25 @@ fn all_decimal(buf: &[u8], values: &Values) -> bool
         .all(|span| is_decimal_at(buf, *span))
 }
 
+// Whether a value is this text.
 fn is_at(buf: &[u8], span: Span, text: &[u8]) -> bool
     ensures { result ≡ is_text (span_bytes buf.now span) text.now }
 {
     bytes_of(buf, span) == text
 }
 
+// Whether each of the values is this text.
 fn all_are(buf: &[u8], values: &Values, text: &[u8]) -> bool
-    ensures { result ≡ list_all (λ value. is_text value text.now) (map (span_bytes buf.now) values.now.items) }
+    ensures { result ≡ list_all (λ value. is_text value text.now)
+        (map (span_bytes buf.now) values.now.items) }
 {
     values.as_slice().iter().all(|span| is_at(buf, *span, text))
 }
 
+// Whether one of the values is this text.
 fn one_is(buf: &[u8], values: &Values, text: &[u8]) -> bool
-    ensures { result ≡ list_any (λ value. is_text value text.now) (map (span_bytes buf.now) values.now.items) }
+    ensures { result ≡ list_any (λ value. is_text value text.now)
+        (map (span_bytes buf.now) values.now.items) }
 {
     values.as_slice().iter().any(|span| is_at(buf, *span, text))
 }
@@ -92,7 +105,7 @@ fn count(buf: &[u8], lines: &[HeaderSpan], name: &[u8]) -> usize
 }
 
 // Whether the lines `Host` and `Content-Length` are refused.
-fn is_refused(buf: &[u8], spans: &RequestSpans, lines: &[HeaderSpan]) -> bool
+fn is_bad(buf: &[u8], spans: &RequestSpans, lines: &[HeaderSpan]) -> bool
     requires { length lines.now ≤ most_lines }
     ensures { result ≡ is_bad (request_at buf.now spans.now lines.now) }
 {
@@ -101,14 +114,16 @@ fn is_refused(buf: &[u8], spans: &RequestSpans, lines: &[HeaderSpan]) -> bool
         || !all_decimal(buf, &values_of(buf, lines, b"content-length"))
 }
 
-fn read_length(buf: &[u8], spans: &RequestSpans, lines: &[HeaderSpan]) -> Option<u64>
+// The length that the first `Content-Length` line tells.
+fn told_length(buf: &[u8], spans: &RequestSpans, lines: &[HeaderSpan]) -> Option<u64>
     requires { length lines.now ≤ most_lines }
     ensures { result ≡ told_length (request_at buf.now spans.now lines.now) }
 {
     first_of(buf, &values_of(buf, lines, b"content-length"))
 }
 
-fn takes_body(method: Method, target: Target) -> bool
+// Whether a method has a body here: PUT, and POST of a patch.
+fn has_body(method: Method, target: Target) -> bool
     ensures { result ≡ has_body method target }
 {
     match method {
@@ -126,16 +141,18 @@ fn takes_body(method: Method, target: Target) -> bool
     }
 }
 
-fn lacks_length(buf: &[u8], spans: &RequestSpans, lines: &[HeaderSpan], head: &Head) -> bool
+// Whether there is a `Transfer-Encoding` line, or no length where one is needed.
+fn needs_length(buf: &[u8], spans: &RequestSpans, lines: &[HeaderSpan], head: &Head) -> bool
     requires few { length lines.now ≤ most_lines }
     requires method { head.now.method ≡ method_of (span_bytes buf.now spans.now.method) }
     requires target { head.now.target ≡ target_of (span_bytes buf.now spans.now.path) }
     ensures { result ≡ needs_length (request_at buf.now spans.now lines.now) }
 {
     count(buf, lines, b"transfer-encoding") > 0
-        || (read_length(buf, spans, lines).is_none() && takes_body(head.method, head.target))
+        || (told_length(buf, spans, lines).is_none() && has_body(head.method, head.target))
 }
 
+// Whether each `Content-Encoding` line is `identity`.
 fn is_plain(buf: &[u8], spans: &RequestSpans, lines: &[HeaderSpan]) -> bool
     requires { length lines.now ≤ most_lines }
     ensures { result ≡ (head_of (request_at buf.now spans.now lines.now)).plain }
@@ -147,6 +164,7 @@ fn is_plain(buf: &[u8], spans: &RequestSpans, lines: &[HeaderSpan]) -> bool
     )
 }
 
+// Whether the stream ends after this request.
 fn closes(buf: &[u8], spans: &RequestSpans, lines: &[HeaderSpan]) -> bool
     requires { length lines.now ≤ most_lines }
     ensures { result ≡ (head_of (request_at buf.now spans.now lines.now)).close }
@@ -154,13 +172,15 @@ fn closes(buf: &[u8], spans: &RequestSpans, lines: &[HeaderSpan]) -> bool
     spans.version == 0 || one_lists(buf, &values_of(buf, lines, b"connection"), b"close")
 }
 
-fn seen(buf: &[u8], spans: &RequestSpans, lines: &[HeaderSpan]) -> Option<u64>
+// The greatest number of the `Ld-Seen` lines.
+fn greatest_seen(buf: &[u8], spans: &RequestSpans, lines: &[HeaderSpan]) -> Option<u64>
     requires { length lines.now ≤ most_lines }
     ensures { result ≡ (head_of (request_at buf.now spans.now lines.now)).seen }
 {
     greatest_of(buf, &values_of(buf, lines, b"ld-seen"))
 }
 
+// Whether an `Ld-Seen` line is no number.
 fn is_bad_seen(buf: &[u8], spans: &RequestSpans, lines: &[HeaderSpan]) -> bool
     requires { length lines.now ≤ most_lines }
     ensures { result ≡ (head_of (request_at buf.now spans.now lines.now)).bad_seen }
@@ -168,6 +188,7 @@ fn is_bad_seen(buf: &[u8], spans: &RequestSpans, lines: &[HeaderSpan]) -> bool
     !all_decimal(buf, &values_of(buf, lines, b"ld-seen"))
 }
 
+// Whether an `Ld-Refresh` line is `now`.
 fn is_now(buf: &[u8], spans: &RequestSpans, lines: &[HeaderSpan]) -> bool
     requires { length lines.now ≤ most_lines }
     ensures { result ≡ (head_of (request_at buf.now spans.now lines.now)).now }
@@ -175,6 +196,7 @@ fn is_now(buf: &[u8], spans: &RequestSpans, lines: &[HeaderSpan]) -> bool
     one_is(buf, &values_of(buf, lines, b"ld-refresh"), b"now")
 }
 
+// Whether an `Ld-Refresh` line is anything else.
 fn is_bad_refresh(buf: &[u8], spans: &RequestSpans, lines: &[HeaderSpan]) -> bool
     requires { length lines.now ≤ most_lines }
     ensures { result ≡ (head_of (request_at buf.now spans.now lines.now)).bad_refresh }
@@ -190,26 +212,27 @@ fn read_parts(buf: &[u8], spans: &RequestSpans, lines: &[HeaderSpan]) -> Head
     Head {
         method: read_method(bytes_of(buf, spans.method)),
         target: read_target(bytes_of(buf, spans.path)),
-        length: read_length(buf, spans, lines).unwrap_or(0),
+        length: told_length(buf, spans, lines).unwrap_or(0),
         expects: false,
         plain: is_plain(buf, spans, lines),
         close: closes(buf, spans, lines),
-        seen: seen(buf, spans, lines),
+        seen: greatest_seen(buf, spans, lines),
         bad_seen: is_bad_seen(buf, spans, lines),
         now: is_now(buf, spans, lines),
         bad_refresh: is_bad_refresh(buf, spans, lines),
     }
 }
 
+// The same of the lines that there are.
 fn judge_lines(buf: &[u8], spans: &RequestSpans, lines: &[HeaderSpan]) -> Result<Head, HeadErr>
     requires { length lines.now ≤ most_lines }
     ensures value { result ≡ judged (request_at buf.now spans.now lines.now) }
     ensures unfailed { (faults : ℕ) → count_after_head faults result ≡ faults }
 {
     let head = read_parts(buf, spans, lines);
-    if is_refused(buf, spans, lines) {
+    if is_bad(buf, spans, lines) {
         Err(HeadErr::BadHead)
-    } else if lacks_length(buf, spans, lines, &head) {
+    } else if needs_length(buf, spans, lines, &head) {
         Err(HeadErr::LengthNeeded)
     } else if head.length > LONGEST_BODY {
         Err(HeadErr::BodyTooLong)
@@ -224,7 +247,8 @@ fn judge_lines(buf: &[u8], spans: &RequestSpans, lines: &[HeaderSpan]) -> Result
 pub(crate) fn judge(buf: &[u8], spans: &RequestSpans, lines: &[HeaderSpan]) -> Result<Head, HeadErr>
     requires few { length lines.now ≤ most_lines }
     requires within { spans.now.headers ≤ length lines.now }
-    ensures value { (h : RequestHead) → IsRequestAt buf.now lines.now spans.now h → result ≡ judged (request_of h) }
+    ensures value { (h : RequestHead) → IsRequestAt buf.now lines.now spans.now h
+        → result ≡ judged (request_of h) }
     ensures unfailed { (faults : ℕ) → count_after_head faults result ≡ faults }
 {
     judge_lines(buf, spans, &lines[..spans.headers])

@@ -1,4 +1,4 @@
-//! Heads of HTTP/1.1 messages and of replies (RFC 9110, RFC 9112).
+//! Heads and bodies of HTTP/1.1 messages, and heads of replies (RFC 9110, RFC 9112).
 #![tactic(auto)]
 
 mod body;
@@ -11,6 +11,7 @@ mod message;
 mod number;
 mod reading;
 mod reply;
+mod short_text;
 #[cfg(test)]
 mod tests;
 mod word;
@@ -21,3 +22,4 @@ pub use head::{Head, HeadErr, Method, Target};
 pub use law::readings_are_one;
 pub use message::read_head;
 pub use reply::{Allow, ReplyHead};
+pub use short_text::{SHORT_ROOM, ShortText, put, put_number};

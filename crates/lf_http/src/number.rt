@@ -9,6 +9,10 @@ ghost use Rattle.lf_http.specs.Judge.{first_number};
 
 use crate::field::{Values, bytes_of};
 
+/// The most digits of a number, so that it is below 2^63.
+const MOST_DIGITS: usize = 18;
+
+// Whether all bytes are decimal digits.
 fn are_digits(value: &[u8]) -> bool
     ensures { result ≡ list_all is_ascii_digit value.now }
 {
@@ -19,9 +23,10 @@ fn are_digits(value: &[u8]) -> bool
 pub(crate) fn is_decimal(value: &[u8]) -> bool
     ensures { result ≡ is_number value.now }
 {
-    !value.is_empty() && value.len() <= 18 && are_digits(value)
+    !value.is_empty() && value.len() <= MOST_DIGITS && are_digits(value)
 }
 
+// The value of a digit.
 fn read_digit(byte: u8) -> u64
     requires { IsTrue (is_ascii_digit byte) }
     ensures value { result ≡ digit_value byte }
@@ -30,6 +35,7 @@ fn read_digit(byte: u8) -> u64
     u64::from(byte - b'0')
 }
 
+// The number that the digits are.
 fn read_digits(digits: &[u8]) -> u64
     requires { IsTrue (is_number digits.now) }
     ensures { result ≡ digits_value 10 digits.now }
@@ -62,6 +68,7 @@ pub(crate) fn first_of(buf: &[u8], values: &Values) -> Option<u64>
     }
 }
 
+// The greater of two numbers, where there are any.
 fn greater_of(first: Option<u64>, second: Option<u64>) -> Option<u64>
     ensures { result ≡ greater first second }
 {

@@ -1,4 +1,5 @@
 //! Pieces of a head are taken until `httparse` knows it whole, refuses it or a limit is passed.
+//! `read_head` calls `next_head`.
 ghost use Rattle.std.specs.Prelude.{◌≡◌, ◌+◌, ◌<◌, ◌≤◌, ℕ, List, Option, [], length, take, vec_capacity, Ok, None, IfOk, IfErr, IfSome, OnOk, OnErr};
 ghost use Rattle.httparse.specs.Grammar.{RequestHead, ReadsRequest};
 ghost use Rattle.httparse.specs.Spans.{IsRequestOf, IsRequestWithin};
@@ -10,10 +11,7 @@ use crate::buffers::LONGEST_HEAD;
 use crate::head::HeadErr;
 use httparse::spans::{HeaderSpan, RequestSpans, parse_request};
 use httparse::{Error, Status};
-use lf_io::{Failed, Source};
-
-/// How many bytes are read at once.
-const PIECE: usize = 4096;
+use lf_io::{Failed, PIECE, Source};
 
 /// Reads a piece behind the bytes that are there.
 #[tactic(auto, using(lf_io::proofs::Told::prepended_nothing, lf_io::proofs::Told::prepended_twice))]
@@ -25,17 +23,20 @@ pub(crate) fn read_more<S: Source>(
     requires piece { length piece.old ≡ longest_piece }
     requires room { length pending.old.items < longest_head }
     requires capacity { longest_head ≤ vec_capacity pending.old }
-    ensures bytes { prepended pending.old.items (S.left source.old) ≡ prepended pending.new.items (S.left source.new) }
+    ensures bytes { prepended pending.old.items (S.left source.old)
+        ≡ prepended pending.new.items (S.left source.new) }
     ensures piece { length piece.new ≡ longest_piece }
     ensures within { length pending.new.items ≤ longest_head }
     ensures capacity { longest_head ≤ vec_capacity pending.new }
-    ensures kept { OnOk result (take (length pending.old.items) pending.new.items ≡ pending.old.items) }
+    ensures kept { OnOk result (take (length pending.old.items) pending.new.items
+        ≡ pending.old.items) }
     ensures longer { IfOk result (λ n. length pending.new.items ≡ length pending.old.items + n) }
     ensures piecewise { IfOk result (λ n. n ≤ longest_piece) }
     ensures end { IfOk result (λ n. n ≡ 0 → HasEnded (S.left source.new)) }
     ensures nothing { IfOk result (λ n. n ≡ 0 → pending.new.items ≡ pending.old.items) }
     ensures same { OnErr result (pending.new.items ≡ pending.old.items) }
-    ensures fewer { to_come (S.taken source.new) pending.new.items ≤ to_come (S.taken source.old) pending.old.items }
+    ensures fewer { to_come (S.taken source.new) pending.new.items
+        ≤ to_come (S.taken source.old) pending.old.items }
     ensures cause { S.faults source.new ≡ count_after (S.faults source.old) result }
 {
     let room = PIECE.min(LONGEST_HEAD - pending.len());
@@ -83,7 +84,8 @@ fn end_of_input(pending: &[u8]) -> Result<Option<RequestSpans>, HeadErr>
     requires open { IsOpen pending.now }
     requires short { length pending.now < longest_head }
     ensures none { IfOk result (λ o. (o ≡ None) × (pending.now ≡ [])) }
-    ensures refused { (left : Option (List ℕ)) → HasEnded left → IfErr result (λ e. LacksHead pending.now left e) }
+    ensures refused { (left : Option (List ℕ)) → HasEnded left
+        → IfErr result (λ e. LacksHead pending.now left e) }
     ensures some { OnErr result (pending.now ≡ [] → ⊥) }
     ensures unfailed { (count : ℕ) → count_after_head count result ≡ count }
 {
@@ -104,11 +106,14 @@ pub(crate) fn next_head<S: Source>(
     requires within { length pending.old.items ≤ longest_head }
     requires capacity { longest_head ≤ vec_capacity pending.old }
     ensures room { length lines.new ≡ most_lines }
-    ensures bytes { prepended pending.old.items (S.left source.old) ≡ prepended pending.new.items (S.left source.new) }
+    ensures bytes { prepended pending.old.items (S.left source.old)
+        ≡ prepended pending.new.items (S.left source.new) }
     ensures within { length pending.new.items ≤ longest_head }
     ensures capacity { longest_head ≤ vec_capacity pending.new }
-    ensures whole { IfOk result (λ o. IfSome o (λ spans. IsRequestOf pending.new.items lines.new spans)) }
-    ensures spans { IfOk result (λ o. IfSome o (λ spans. IsRequestWithin pending.new.items lines.new spans)) }
+    ensures whole { IfOk result (λ o. IfSome o (λ spans.
+        IsRequestOf pending.new.items lines.new spans)) }
+    ensures spans { IfOk result (λ o. IfSome o (λ spans.
+        IsRequestWithin pending.new.items lines.new spans)) }
     ensures none { result ≡ Ok None → pending.new.items ≡ [] }
     ensures end { result ≡ Ok None → HasEnded (S.left source.new) }
     ensures refused { IfErr result (λ e. LacksHead pending.new.items (S.left source.new) e) }
@@ -116,7 +121,8 @@ pub(crate) fn next_head<S: Source>(
         → (source.new ≡ source.old) × (pending.new.items ≡ pending.old.items) }
     ensures onward { ReadsOn pending.old.items pending.new.items }
     ensures some { IfErr result (λ e. (e ≡ HeadErr.ReadFault → ⊥) → pending.new.items ≡ [] → ⊥) }
-    ensures fewer { to_come (S.taken source.new) pending.new.items ≤ to_come (S.taken source.old) pending.old.items }
+    ensures fewer { to_come (S.taken source.new) pending.new.items
+        ≤ to_come (S.taken source.old) pending.old.items }
     ensures cause { S.faults source.new ≡ count_after_head (S.faults source.old) result }
 {
     let mut piece = [0u8; PIECE];

@@ -1,13 +1,13 @@
-//! Reply heads, written into the buffers (RFC 9112, section 4).
-ghost use Rattle.std.specs.Prelude.{◌≡◌, ◌+◌, ◌≤◌, ◌++◌, [], length, decimal, IsTrue, Some};
+//! Reply heads, written into the buffers (RFC 9112, section 4). `reply_head` calls `write_reply`.
+ghost use Rattle.std.specs.Prelude.{◌≡◌, ◌+◌, ◌≤◌, ◌++◌, [], length, IsTrue, Some};
 ghost use Rattle.lf_http.specs.Reply.{reason as reason_of, is_named, reply_text, status_text, media_text, allow_text, version_line, version_text, close_text, length_text, crlf};
 
-use arrayvec::ArrayVec;
-use itoa::Buffer;
+use crate::short_text::{ShortText, put, put_number};
 
 /// The header line `Allow` of a reply.
 #[derive(Clone, Copy, Debug, PartialEq, Eq)]
 pub enum Allow {
+    /// There is no such line.
     NoAllow,
     Get,
     Post,
@@ -17,9 +17,11 @@ pub enum Allow {
 /// What the head of a reply says.
 #[derive(Clone, Copy, Debug, PartialEq, Eq)]
 pub struct ReplyHead {
+    /// One of those that have a reason phrase here.
     pub status: u16,
     /// Whether the body is a document.
     pub ld_json: bool,
+    /// The methods that the target has, where the one that was sent is none of them.
     pub allow: Allow,
     /// The number of `Ld-Version`.
     pub version: Option<u64>,
@@ -29,20 +31,7 @@ pub struct ReplyHead {
     pub length: u64,
 }
 
-/// The bytes of a reply head, which take no memory.
-pub(crate) type ReplyBytes = ArrayVec<u8, 320>;
-
-// Appends a text that has room.
-fn put(reply: &mut ReplyBytes, text: &[u8])
-    requires { length reply.old.items + length text.now ≤ 320 }
-    ensures items { reply.new.items ≡ reply.old.items ++ text.now }
-    ensures len { length reply.new.items ≡ length reply.old.items + length text.now }
-{
-    for byte in text {
-        reply.push(*byte);
-    }
-}
-
+// The reason phrase of a status that is sent.
 #[tactic(auto, unfolding(crate::specs::Reply::reason))]
 fn reason(status: u16) -> &'static [u8]
     requires { IsTrue (is_named status) }
@@ -62,24 +51,15 @@ fn reason(status: u16) -> &'static [u8]
         417 => b"Expectation Failed",
         422 => b"Unprocessable Content",
         431 => b"Request Header Fields Too Large",
-        501 => b"Not Implemented",
         503 => b"Service Unavailable",
         507 => b"Insufficient Storage",
         _ => unreachable!(),
     }
 }
 
-// Appends a number in decimal.
-fn put_number(reply: &mut ReplyBytes, number: u64)
-    requires { length reply.old.items ≤ 250 }
-    ensures items { reply.new.items ≡ reply.old.items ++ decimal number }
-    ensures len { length reply.new.items ≤ length reply.old.items + 20 }
-{
-    put(reply, Buffer::new().format(number).as_bytes());
-}
-
+// The status line.
 #[tactic(auto, unfolding(crate::specs::Reply::status_text, crate::specs::Reply::crlf))]
-fn put_status(reply: &mut ReplyBytes, status: u16)
+fn put_status(reply: &mut ShortText, status: u16)
     requires named { IsTrue (is_named status) }
     requires empty { reply.old.items ≡ [] }
     ensures items { reply.new.items ≡ status_text status }
@@ -92,8 +72,9 @@ fn put_status(reply: &mut ReplyBytes, status: u16)
     put(reply, b"\r\n");
 }
 
+// `Content-Type`: a document is JSON-LD, all else is JSON.
 #[tactic(auto, unfolding(crate::specs::Reply::media_text, crate::specs::Reply::crlf))]
-fn put_media(reply: &mut ReplyBytes, ld_json: bool)
+fn put_media(reply: &mut ShortText, ld_json: bool)
     requires { length reply.old.items ≤ 80 }
     ensures items { reply.new.items ≡ reply.old.items ++ media_text ld_json }
     ensures len { length reply.new.items ≤ length reply.old.items + 40 }
@@ -105,8 +86,9 @@ fn put_media(reply: &mut ReplyBytes, ld_json: bool)
     }
 }
 
+// `Allow`, where methods are told.
 #[tactic(auto, unfolding(crate::specs::Reply::allow_text, crate::specs::Reply::crlf))]
-fn put_allow(reply: &mut ReplyBytes, allow: Allow)
+fn put_allow(reply: &mut ShortText, allow: Allow)
     requires { length reply.old.items ≤ 120 }
     ensures items { reply.new.items ≡ reply.old.items ++ allow_text allow }
     ensures len { length reply.new.items ≤ length reply.old.items + 30 }
@@ -119,8 +101,9 @@ fn put_allow(reply: &mut ReplyBytes, allow: Allow)
     }
 }
 
+// The line `Ld-Version`.
 #[tactic(auto, unfolding(crate::specs::Reply::version_line, crate::specs::Reply::crlf))]
-fn put_version_line(reply: &mut ReplyBytes, number: u64)
+fn put_version_line(reply: &mut ShortText, number: u64)
     requires { length reply.old.items ≤ 150 }
     ensures items { reply.new.items ≡ reply.old.items ++ version_line number }
     ensures len { length reply.new.items ≤ length reply.old.items + 40 }
@@ -130,7 +113,8 @@ fn put_version_line(reply: &mut ReplyBytes, number: u64)
     put(reply, b"\r\n");
 }
 
-fn put_version(reply: &mut ReplyBytes, version: Option<u64>)
+// `Ld-Version`, where the body speaks of a version.
+fn put_version(reply: &mut ShortText, version: Option<u64>)
     requires { length reply.old.items ≤ 150 }
     ensures items { reply.new.items ≡ reply.old.items ++ version_text version }
     ensures len { length reply.new.items ≤ length reply.old.items + 40 }
@@ -141,8 +125,9 @@ fn put_version(reply: &mut ReplyBytes, version: Option<u64>)
     }
 }
 
+// `Connection: close`, where the stream ends.
 #[tactic(auto, unfolding(crate::specs::Reply::close_text, crate::specs::Reply::crlf))]
-fn put_close(reply: &mut ReplyBytes, close: bool)
+fn put_close(reply: &mut ShortText, close: bool)
     requires { length reply.old.items ≤ 190 }
     ensures items { reply.new.items ≡ reply.old.items ++ close_text close }
     ensures len { length reply.new.items ≤ length reply.old.items + 20 }
@@ -152,8 +137,9 @@ fn put_close(reply: &mut ReplyBytes, close: bool)
     }
 }
 
+// `Content-Length` and the empty line behind the head.
 #[tactic(auto, unfolding(crate::specs::Reply::length_text, crate::specs::Reply::crlf))]
-fn put_length(reply: &mut ReplyBytes, count: u64)
+fn put_length(reply: &mut ShortText, count: u64)
     requires { length reply.old.items ≤ 210 }
     ensures { reply.new.items ≡ reply.old.items ++ length_text count ++ crlf }
 {
@@ -162,8 +148,9 @@ fn put_length(reply: &mut ReplyBytes, count: u64)
     put(reply, b"\r\n\r\n");
 }
 
-/// Writes the whole head in place of what was there.
-pub(crate) fn write_reply(reply: &mut ReplyBytes, head: &ReplyHead)
+/// Writes the whole head in place of what was there. The bounds on lengths in this file are those
+/// of the lines so far.
+pub(crate) fn write_reply(reply: &mut ShortText, head: &ReplyHead)
     requires { IsTrue (is_named head.now.status) }
     ensures { reply.new.items ≡ reply_text head.now }
 {

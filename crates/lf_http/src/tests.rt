@@ -504,7 +504,6 @@ fn each_status_has_its_reason(rt: HostRuntime) -> Result<(), Fail> {
     assert!(rt; begins(b, 417, b"HTTP/1.1 417 Expectation Failed"));
     assert!(rt; begins(b, 422, b"HTTP/1.1 422 Unprocessable Content"));
     assert!(rt; begins(b, 431, b"HTTP/1.1 431 Request Header Fields Too Large"));
-    assert!(rt; begins(b, 501, b"HTTP/1.1 501 Not Implemented"));
     assert!(rt; begins(b, 503, b"HTTP/1.1 503 Service Unavailable"));
     assert!(rt; begins(b, 507, b"HTTP/1.1 507 Insufficient Storage"));
     Ok(())

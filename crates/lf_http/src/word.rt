@@ -8,6 +8,7 @@ ghost use Rattle.lf_http.specs.Fields.{has_word};
 use crate::field::{Values, bytes_of, is_same_name};
 use httparse::spans::Span;
 
+// Whether a byte is a space or a tab (RFC 9110, section 5.6.3, OWS).
 fn is_blank(byte: u8) -> bool
     ensures { result ≡ is_ows byte }
 {
@@ -40,6 +41,7 @@ fn drop_blanks(text: &[u8]) -> &[u8]
     &[]
 }
 
+// The text without the blanks around it.
 #[tactic(auto, unfolding(httparse::specs::Grammar::trim_ows))]
 fn trim(text: &[u8]) -> &[u8]
     ensures { result.now ≡ trim_ows text.now }
@@ -56,6 +58,7 @@ fn is_in_list(value: &[u8], word: &[u8]) -> bool
         .any(|part| is_same_name(trim(part), word))
 }
 
+// The same of the bytes that a span covers.
 fn is_in_list_at(buf: &[u8], span: Span, word: &[u8]) -> bool
     ensures { result ≡ has_word word.now (span_bytes buf.now span) }
 {

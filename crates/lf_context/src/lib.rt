@@ -21,4 +21,4 @@ mod walk;
 pub use context::process;
 pub use error::ContextErr;
 pub use expand::{expand_iri, find_term};
-pub use text::{is_absolute, is_keyword, lower};
+pub use text::{cut_at_colon, is_absolute, is_keyword, lower};

@@ -4,4 +4,5 @@ pub mod Filed
 pub mod Named
 pub mod Cut
 pub mod Grouped
+pub mod FirstFree
 pub mod Nearest

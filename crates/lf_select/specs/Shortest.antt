@@ -1,11 +1,12 @@
 -- Compact IRIs, found by the lengths of the IRIs of prefixes.
-use Rattle.std.specs.Prelude.{List, [], ◌∷◌, ℕ, nat_lt, Bool, Option, Some, None, if◌then◌else◌, length, take, slice_get}
-use Rattle.std.specs.Option.{option_and_then}
+use Rattle.std.specs.Prelude.{List, [], ◌∷◌, ℕ, nat_lt, Bool, Option, Some, None, if◌then◌else◌, length, take, filter_map, slice_get}
+use Rattle.std.specs.Option.{option_and_then, option_map_or}
 use Rattle.lf_model.specs.declared.table.TermTable.{TermTable}
 use Rattle.lf_model.specs.declared.table.TermDef.{TermDef}
-use Rattle.def_selection.specs.Chosen.{lesser}
+use Rattle.def_selection.specs.Chosen.{least, lesser}
 use Rattle.def_selection.specs.Iris.{compact_iri, is_free, term_named}
-use Rattle.lf_select.specs.Prefixes.{group_at, Groups}
+use Rattle.lf_select.specs.Prefixes.{ranks_at, Groups, Ranks}
+use Rattle.lf_select.specs.declared.prefixes.Ranked.{Ranked}
 
 -- the shorter text, then the lesser
 abbrev pub text_rank : List ℕ → List ℕ
@@ -29,18 +30,23 @@ abbrev pub nearer : Option (List ℕ) → Option (List ℕ) → Option (List ℕ
 nearer None best = best
 nearer (Some compact) best = lesser text_rank compact best
 
--- the best of those that the terms at places make, and of another
-abbrev pub nearest : TermTable → List ℕ → Bool → List ℕ → Option (List ℕ) → Option (List ℕ)
-nearest table iri has_value [] best = best
-nearest table iri has_value (place ∷ places) best =
-    nearer (candidate_at table iri has_value place) (nearest table iri has_value places best)
+-- the compact IRI that the term of an entry makes
+abbrev pub candidate_of : TermTable → List ℕ → Bool → Ranked × ℕ → Option (List ℕ)
+candidate_of table iri has_value entry = candidate_at table iri has_value entry.1
 
--- the places of prefixes for the front of this length
-abbrev pub group : Groups → List ℕ → ℕ → List ℕ
-group groups iri front = if nat_lt front (length iri) then group_at groups (take front iri) else []
+-- the best of those that the terms of some entries make
+abbrev pub best_of : TermTable → List ℕ → Bool → List (Ranked × ℕ) → Option (List ℕ)
+best_of table iri has_value entries = least text_rank (filter_map (candidate_of table iri has_value) entries)
+
+-- the terms for the front of this length
+abbrev pub group : Groups → List ℕ → ℕ → Option Ranks
+group groups iri front = if nat_lt front (length iri) then ranks_at groups (take front iri) else None
+
+abbrev pub entries_at : Groups → List ℕ → ℕ → List (Ranked × ℕ)
+entries_at groups iri front = option_map_or (λ ranks. ranks.entries) (group groups iri front) []
 
 -- the best over fronts of these lengths
 abbrev pub shortest : TermTable → Groups → List ℕ → Bool → List ℕ → Option (List ℕ)
 shortest table groups iri has_value [] = None
 shortest table groups iri has_value (front ∷ fronts) =
-    nearest table iri has_value (group groups iri front) (shortest table groups iri has_value fronts)
+    nearer (best_of table iri has_value (entries_at groups iri front)) (shortest table groups iri has_value fronts)

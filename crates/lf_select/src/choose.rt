@@ -12,7 +12,7 @@ use lf_base::{Memory, Text, TryCopy};
 use lf_model::{Container, TermDef, TermTable};
 use std::alloc::Global;
 
-/// The term of a shelf in the first of the pick's slots that has one in this container.
+// The term of a shelf in the first of the pick's slots that has one in this container.
 fn first_in_slots<'a>(
     alloc: Global,
     terms: &'a [TermDef],
@@ -32,7 +32,7 @@ fn first_in_slots<'a>(
     Ok(None)
 }
 
-/// The term of a shelf in the first of the pick's containers that has one in a slot of the pick.
+// The term of a shelf in the first of the pick's containers that has one in a slot of the pick.
 fn first_in_containers<'a>(
     alloc: Global,
     terms: &'a [TermDef],

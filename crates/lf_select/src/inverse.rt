@@ -1,6 +1,7 @@
 //! A context turned round: from an IRI and a value to the term, made once for a document.
-ghost use Rattle.std.specs.Prelude.{◌≡◌, ◌∷◌, IfOk, option_map, Some};
+ghost use Rattle.std.specs.Prelude.{◌≡◌, ◌∷◌, true, IfOk, Some};
 ghost use Rattle.std.specs.Option.{option_copied, option_or};
+ghost use Rattle.lf_base.specs.Ascii as ch;
 ghost use Rattle.def_selection.specs.Chosen.{chosen};
 ghost use Rattle.def_selection.specs.Iris.{by_vocab, is_confused, no_value, short, short_keyword, short_node, term_named, unless_taken};
 ghost use Rattle.lf_select.specs.Inverse.{by_prefix_or_whole, Compacts};
@@ -11,9 +12,10 @@ use crate::names::{Names, is_prefix_name, names_of, prefix_names_of, term_named}
 use crate::prefixes::{Prefixes, prefixes_of};
 use crate::shelves::{Shelves, shelves_of};
 use crate::shorten::by_prefix;
-use crate::text::{cut_at_colon, is_absolute, is_keyword, rest_after};
+use crate::text::rest_after;
 use def_selection::Pick;
 use lf_base::{Memory, Text, TryCopy};
+use lf_context::{cut_at_colon, is_absolute, is_keyword};
 use lf_model::{TermDef, TermTable};
 use lf_rdf::Term;
 use std::alloc::Global;
@@ -95,7 +97,7 @@ impl Inverse {
         }
     }
 
-    /// What follows the vocabulary mapping in an IRI, where it is neither a term nor a keyword.
+    // What follows the vocabulary mapping in an IRI, where it is neither a term nor a keyword.
     fn by_vocab(&self, alloc: Global, iri: &Text) -> Result<Option<Text>, Memory>
         ensures { IfOk result (λ rest. rest ≡ by_vocab self.now iri.now) }
     {
@@ -108,18 +110,7 @@ impl Inverse {
         }
     }
 
-    /// The chosen term's name, else what follows the vocabulary mapping.
-    fn by_word(&self, alloc: Global, iri: &Text, pick: &Pick) -> Result<Option<Text>, Memory>
-        ensures { IfOk result (λ word. word
-            ≡ option_or (option_map (λ term. term.name) (chosen self.now iri.now pick.now)) (by_vocab self.now iri.now)) }
-    {
-        match self.chosen(alloc, iri, pick)? {
-            Some(term) => Ok(Some(term.name.copy(alloc)?)),
-            None => self.by_vocab(alloc, iri),
-        }
-    }
-
-    /// Whether an IRI would be read as a compact one.
+    // Whether an IRI would be read as a compact one.
     fn is_confused(&self, alloc: Global, iri: &Text) -> Result<bool, Memory>
         ensures { IfOk result (λ confused. confused ≡ is_confused self.now iri.now) }
     {
@@ -134,7 +125,7 @@ impl Inverse {
         Ok(is_prefix_name(&self.table, &self.prefix_names, &scheme))
     }
 
-    /// The compact IRI of an IRI, or the IRI.
+    // The compact IRI of an IRI, or the IRI.
     fn by_prefix(&self, alloc: Global, iri: &Text, has_value: bool) -> Result<Text, SelectErr>
         ensures { Compacts result (by_prefix_or_whole self.now iri.now has_value) }
     {
@@ -158,8 +149,8 @@ impl Inverse {
     }
 
     /// The compacted IRI (JSON-LD 1.1 Processing Algorithms and API, section 6.2). `Confused` is the error `IRI confused with
-    /// prefix`. Its time grows with the logarithm of the terms and with the IRI's bytes, and with the prefixes that stand for
-    /// one front of the IRI.
+    /// prefix`. Its time grows with the logarithm of the terms and with the IRI's bytes, and with the
+    /// compact IRIs that are terms and so may not be used.
     pub fn compact(
         &self,
         alloc: Global,
@@ -170,11 +161,39 @@ impl Inverse {
         ensures { Compacts result (short self.now iri.now vocab pick.now) }
     {
         if vocab {
-            if let Some(word) = self.by_word(alloc, iri, pick)? {
-                return Ok(word);
-            }
+            let term = self.chosen(alloc, iri, pick)?;
+            self.compact_under(alloc, iri, term, pick)
+        } else {
+            self.by_prefix(alloc, iri, pick.has_value)
         }
-        self.by_prefix(alloc, iri, pick.has_value)
+    }
+
+    /// The compacted IRI of a property, under the term that is chosen for it, if any: so a caller that asks for the term too
+    /// looks it up once.
+    pub fn compact_under(
+        &self,
+        alloc: Global,
+        iri: &Text,
+        term: Option<&TermDef>,
+        pick: &Pick,
+    ) -> Result<Text, SelectErr>
+        requires { option_copied term ≡ chosen self.now iri.now pick.now }
+        ensures { Compacts result (short self.now iri.now true pick.now) }
+    {
+        match term {
+            Some(term) => Ok(term.name.copy(alloc)?),
+            None => self.unchosen(alloc, iri, pick),
+        }
+    }
+
+    // The compacted IRI of a property for which no term is chosen.
+    fn unchosen(&self, alloc: Global, iri: &Text, pick: &Pick) -> Result<Text, SelectErr>
+        ensures { Compacts result (option_or (by_vocab self.now iri.now) (by_prefix_or_whole self.now iri.now pick.now.has_value)) }
+    {
+        match self.by_vocab(alloc, iri)? {
+            Some(rest) => Ok(rest),
+            None => self.by_prefix(alloc, iri, pick.has_value),
+        }
     }
 
     /// The compacted IRI of a type, a datatype or an id, which has no value.
@@ -207,9 +226,9 @@ impl Inverse {
     }
 }
 
-/// The id of a blank node.
+// The id of a blank node.
 fn blank_id(alloc: Global, label: &Text) -> Result<Text, Memory>
-    ensures { IfOk result (λ id. id ≡ 95 ∷ 58 ∷ label.now) }
+    ensures { IfOk result (λ id. id ≡ ch.underscore ∷ ch.colon ∷ label.now) }
 {
     let mut id = String::from_str(alloc, "_:")?;
     id.push_str(label.as_str())?;

@@ -67,7 +67,7 @@ fn key(alloc: Global, container: Container, kind: PickKind, slot: &str) -> Resul
     Ok(SlotKey::of(container, kind, Text::of(alloc, slot)?))
 }
 
-/// The keys of a term with a coercion.
+// The keys of a term with a coercion.
 #[tactic(auto, unfolding(def_selection::specs::Keywords::at_any, def_selection::specs::Keywords::at_none))]
 fn coerced_keys(
     alloc: Global,
@@ -91,7 +91,7 @@ fn coerced_keys(
     }
 }
 
-/// The keys of a term with a language of its own, or null.
+// The keys of a term with a language of its own, or null.
 #[tactic(auto, unfolding(def_selection::specs::Keywords::at_null, def_selection::specs::Keywords::at_none))]
 fn language_keys(
     alloc: Global,
@@ -112,7 +112,7 @@ fn language_keys(
     }
 }
 
-/// The keys of a term without a coercion and a language of its own, by the table's language.
+// The keys of a term without a coercion and a language of its own, by the table's language.
 #[tactic(auto, unfolding(def_selection::specs::Keywords::at_none))]
 fn unmapped_keys(
     alloc: Global,

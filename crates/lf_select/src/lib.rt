@@ -15,3 +15,4 @@ mod text;
 
 pub use error::SelectErr;
 pub use inverse::{Inverse, compact_iri};
+pub use shorten::stands_for;

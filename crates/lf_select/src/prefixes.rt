@@ -1,34 +1,65 @@
-//! The terms that may be prefixes by their IRIs, made once from a table.
-ghost use Rattle.std.specs.Prelude.{◌≡◌, ℕ, ◌+◌, ◌<◌, List, [], ◌∷◌, ◌++◌, nat_eq, ◌||◌, IfOk, OnOk, Some, if◌then◌else◌, length, slice_get};
+//! The terms that may be prefixes by their IRIs, and those of one IRI in order of their names, made once from a table.
+ghost use Rattle.std.specs.Prelude.{◌≡◌, ℕ, ◌+◌, ◌<◌, List, nat_eq, ◌&&◌, ◌||◌, IfOk, OnOk, Some, if◌then◌else◌, length};
 ghost use Rattle.std.specs.List.{list_any};
 ghost use Rattle.lf_rdf.specs.Equality.{text_eq};
-ghost use Rattle.lf_model.specs.declared.table.TermDef.{TermDef};
-ghost use Rattle.lf_select.specs.Prefixes.{group_at, IsGrouped, AreGrouped, AreGroupedFrom};
+ghost use Rattle.lf_select.specs.Prefixes.{prefix_at, rank_eq, ranked, AreGrouped, AreGroupedFrom};
+ghost use Rattle.lf_select.specs.declared.prefixes.Ranked.{Ranked as Rank};
 
-use lf_base::Memory;
+use lf_base::{Memory, Text, TryCopy};
 use lf_model::TermTable;
 use std::alloc::Global;
 use std::collections::BTreeMap;
 
-/// Places by the bytes of an IRI.
-pub type Groups = BTreeMap<Vec<u8>, Vec<usize>>;
+/// A name by its length and then its bytes.
+#[derive(Debug, PartialEq, Eq, PartialOrd, Ord, Drop)]
+pub struct Ranked {
+    length: usize,
+    name: Text,
+}
 
-/// The places of the terms that may be prefixes, by the bytes of their IRIs, and how many bytes these have.
+/// The places of terms in order of their names.
+pub type Ranks = BTreeMap<Ranked, usize>;
+
+/// The terms of IRIs, by the bytes of these.
+pub type Groups = BTreeMap<Vec<u8>, Ranks>;
+
+/// The terms that may be prefixes, and how many bytes their IRIs have.
 #[derive(Drop)]
 pub struct Prefixes {
     pub groups: Groups,
     pub lengths: Vec<usize>,
 }
 
-fn add_place(alloc: Global, groups: &mut Groups, iri: &[u8], place: usize) -> Result<(), Memory>
-    ensures { OnOk result ((q : List ℕ) → group_at groups.new q
-        ≡ (if text_eq iri.now q then group_at groups.old q ++ place ∷ [] else group_at groups.old q)) }
+impl Ranked {
+    fn of(name: Text) -> Ranked
+        ensures { result ≡ ranked name }
+    {
+        Ranked {
+            length: name.as_str().len(),
+            name,
+        }
+    }
+}
+
+// Puts a place under an IRI and a name.
+fn put_prefix(
+    alloc: Global,
+    groups: &mut Groups,
+    iri: &[u8],
+    key: Ranked,
+    place: usize,
+) -> Result<(), Memory>
+    ensures { OnOk result ((q : List ℕ) (k : Rank) → prefix_at groups.new q k
+        ≡ (if text_eq iri.now q && rank_eq key k then Some place else prefix_at groups.old q k)) }
 {
     match groups.get_mut(iri) {
-        Some(group) => group.push(place)?,
+        Some(ranks) => {
+            ranks.insert(key, place)?;
+        }
         None => {
-            let group = vec![in alloc; place]?;
-            groups.insert(Vec::from_slice(alloc, iri)?, group)?;
+            let mut ranks = BTreeMap::new(alloc);
+            ranks.insert(key, place)?;
+            groups.insert(Vec::from_slice(alloc, iri)?, ranks)?;
         }
     }
     Ok(())
@@ -58,14 +89,15 @@ fn add_prefix(
     if term.prefix {
         if let Some(iri) = &term.iri {
             let bytes = iri.as_str().as_bytes();
-            add_place(alloc, &mut prefixes.groups, bytes, place)?;
+            let key = Ranked::of(term.name.copy(alloc)?);
+            put_prefix(alloc, &mut prefixes.groups, bytes, key, place)?;
             add_length(&mut prefixes.lengths, bytes.len())?;
         }
     }
     Ok(())
 }
 
-/// The IRIs of a table's terms that may be prefixes. Its time grows as n log n in them and their bytes.
+/// The terms of a table that may be prefixes. Its time grows as n log n in them and their bytes.
 pub fn prefixes_of(alloc: Global, table: &TermTable) -> Result<Prefixes, Memory>
     ensures { IfOk result (λ prefixes. AreGrouped table.now prefixes.groups prefixes.lengths.items) }
 {

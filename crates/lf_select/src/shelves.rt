@@ -37,7 +37,7 @@ pub fn term_in<'a>(terms: &'a [TermDef], shelf: &Shelf, key: &SlotKey) -> Option
     }
 }
 
-/// Whether the term that is filed under an IRI's key comes before this one.
+// Whether the term that is filed under an IRI's key comes before this one.
 fn is_taken(terms: &[TermDef], shelves: &Shelves, iri: &Text, key: &SlotKey, term: &TermDef) -> bool
     ensures { result ≡ comes_first term.now (term_at terms.now shelves.now iri.now key.now) }
 {
@@ -50,7 +50,7 @@ fn is_taken(terms: &[TermDef], shelves: &Shelves, iri: &Text, key: &SlotKey, ter
     }
 }
 
-/// Files a place under an IRI and a key, in the place of an older one.
+// Files a place under an IRI and a key, in the place of an older one.
 fn put_place(
     alloc: Global,
     shelves: &mut Shelves,
@@ -74,7 +74,7 @@ fn put_place(
     Ok(())
 }
 
-/// Files a term under an IRI and a key, where no other term comes before it.
+// Files a term under an IRI and a key, where no other term comes before it.
 fn file(
     alloc: Global,
     terms: &[TermDef],
@@ -92,7 +92,7 @@ fn file(
     put_place(alloc, shelves, iri, key.copy(alloc)?, place)
 }
 
-/// Files a term under its IRI and each of its keys.
+// Files a term under its IRI and each of its keys.
 fn file_keys(
     alloc: Global,
     table: &TermTable,
@@ -113,7 +113,7 @@ fn file_keys(
     Ok(())
 }
 
-/// Files the term at a place, where it has an IRI.
+// Files the term at a place, where it has an IRI.
 fn file_term(
     alloc: Global,
     table: &TermTable,

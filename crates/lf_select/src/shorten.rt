@@ -1,14 +1,17 @@
 //! The compact IRIs of an IRI, and the one that is used.
-ghost use Rattle.std.specs.Prelude.{◌≡◌, ◌∷◌, ◌++◌, IfOk};
+ghost use Rattle.std.specs.Prelude.{◌≡◌, ◌∷◌, ◌++◌, ℕ, IfOk, Some, take};
+ghost use Rattle.std.specs.BTreeMap.{get};
 ghost use Rattle.std.specs.Option.{option_copied};
+ghost use Rattle.lf_base.specs.Ascii as ch;
 ghost use Rattle.def_selection.specs.Chosen.{stands_for};
 ghost use Rattle.def_selection.specs.Iris.{by_prefix, compact_iri, is_free, term_named};
 ghost use Rattle.lf_select.specs.Names.{AreNamed};
-ghost use Rattle.lf_select.specs.Prefixes.{AreGrouped};
-ghost use Rattle.lf_select.specs.Shortest.{candidate_at, group, nearer, nearest};
+ghost use Rattle.lf_select.specs.Prefixes.{rank_cmp, AreGrouped, IsPrefixAt};
+ghost use Rattle.lf_select.specs.Shortest.{best_of, candidate_at, entries_at, group, nearer};
+ghost use Rattle.lf_select.specs.declared.prefixes.Ranked.{Ranked as Rank};
 
 use crate::names::{Names, term_named};
-use crate::prefixes::Prefixes;
+use crate::prefixes::{Prefixes, Ranks};
 use crate::shelves::comes_before;
 use crate::text::rest_after;
 use lf_base::{Memory, Text};
@@ -16,7 +19,7 @@ use lf_model::{TermDef, TermTable};
 use std::alloc::Global;
 
 /// Whether a term stands for an IRI.
-fn stands_for(iri: &Text, term: &TermDef) -> bool
+pub fn stands_for(iri: &Text, term: &TermDef) -> bool
     ensures { result ≡ stands_for iri.now term.now }
 {
     match &term.iri {
@@ -26,7 +29,7 @@ fn stands_for(iri: &Text, term: &TermDef) -> bool
 }
 
 fn joined(alloc: Global, prefix: &str, rest: &str) -> Result<Text, Memory>
-    ensures { IfOk result (λ text. text ≡ prefix.now ++ 58 ∷ rest.now) }
+    ensures { IfOk result (λ text. text ≡ prefix.now ++ ch.colon ∷ rest.now) }
 {
     let mut text = String::from_str(alloc, prefix)?;
     text.push(':')?;
@@ -34,7 +37,7 @@ fn joined(alloc: Global, prefix: &str, rest: &str) -> Result<Text, Memory>
     Text::from_string(text)
 }
 
-/// The compact IRI that a term makes of an IRI (JSON-LD 1.1 Processing Algorithms and API, section 6.2.2, step 7).
+// The compact IRI that a term makes of an IRI (JSON-LD 1.1 Processing Algorithms and API, section 6.2.2, step 7).
 fn compact_by(alloc: Global, iri: &Text, term: &TermDef) -> Result<Option<Text>, Memory>
     ensures { IfOk result (λ compact. compact ≡ compact_iri iri.now term.now) }
 {
@@ -50,7 +53,7 @@ fn compact_by(alloc: Global, iri: &Text, term: &TermDef) -> Result<Option<Text>,
     }
 }
 
-/// Whether a compact IRI may be used: it is no term, or, without a value, a term of this IRI.
+// Whether a compact IRI may be used: it is no term, or, without a value, a term of this IRI.
 fn is_free(table: &TermTable, names: &Names, iri: &Text, has_value: bool, compact: &Text) -> bool
     requires { AreNamed table.now names.now }
     ensures { result ≡ is_free iri.now has_value (term_named table.now compact.now) }
@@ -61,7 +64,7 @@ fn is_free(table: &TermTable, names: &Names, iri: &Text, has_value: bool, compac
     }
 }
 
-/// The compact IRI that the term at a place makes, where it may be used.
+// The compact IRI that the term at a place makes, where it may be used.
 fn candidate_at(
     alloc: Global,
     table: &TermTable,
@@ -88,7 +91,7 @@ fn candidate_at(
     }
 }
 
-/// The better of a compact IRI and the best so far.
+// The better of a compact IRI and the best so far.
 fn nearer(compact: Option<Text>, best: Option<Text>) -> Option<Text>
     ensures { result ≡ nearer compact best }
 {
@@ -107,46 +110,65 @@ fn nearer(compact: Option<Text>, best: Option<Text>) -> Option<Text>
     }
 }
 
-/// The best of the compact IRIs that the terms at places make, and of another.
-fn nearest(
+// The best of the compact IRIs that the terms of one IRI make: in order of their names the first that may be used.
+fn first_free(
     alloc: Global,
     table: &TermTable,
     names: &Names,
     iri: &Text,
     has_value: bool,
-    places: &[usize],
-    other: Option<Text>,
+    front: usize,
+    ranks: &Ranks,
 ) -> Result<Option<Text>, Memory>
-    requires { AreNamed table.now names.now }
-    ensures { IfOk result (λ best. best ≡ nearest table.now iri.now has_value places.now other) }
+    requires named { AreNamed table.now names.now }
+    requires prefixes { (key : Rank) (place : ℕ) → get rank_cmp ranks.now key ≡ Some place
+        → IsPrefixAt table.now (take front iri.now) key place }
+    ensures { IfOk result (λ compact. compact ≡ best_of table.now iri.now has_value ranks.now.entries) }
 {
-    let mut best = other;
-    let mut at = places.len();
-    while at > 0 {
-        at -= 1;
-        let compact = candidate_at(alloc, table, names, iri, has_value, places[at])?;
-        best = nearer(compact, best);
+    let _ = front;
+    for (_, place) in ranks.iter() {
+        let compact = candidate_at(alloc, table, names, iri, has_value, *place)?;
+        if compact.is_some() {
+            return Ok(compact);
+        }
     }
-    Ok(best)
+    Ok(None)
 }
 
-/// The places of the prefixes that stand for the front of an IRI of this length.
-fn group<'a>(prefixes: &'a Prefixes, iri: &Text, front: usize) -> &'a [usize]
-    ensures { result.now ≡ group prefixes.now.groups iri.now front }
+// The prefixes that stand for the front of an IRI of this length.
+fn group<'a>(prefixes: &'a Prefixes, iri: &Text, front: usize) -> Option<&'a Ranks>
+    ensures { option_copied result ≡ group prefixes.now.groups iri.now front }
 {
     let bytes = iri.as_str().as_bytes();
     if front < bytes.len() {
-        match prefixes.groups.get(&bytes[..front]) {
-            Some(group) => group.as_slice(),
-            None => &[],
-        }
+        prefixes.groups.get(&bytes[..front])
     } else {
-        &[]
+        None
     }
 }
 
-/// The shortest compact IRI that may be used, then the least. Its time grows with the number of lengths of prefixes' IRIs
-/// below that of the IRI, with the logarithm of the terms, and with the prefixes that stand for a front of the IRI.
+// The best of the compact IRIs by the prefixes that stand for the front of this length.
+fn best_at(
+    alloc: Global,
+    table: &TermTable,
+    names: &Names,
+    prefixes: &Prefixes,
+    iri: &Text,
+    has_value: bool,
+    front: usize,
+) -> Result<Option<Text>, Memory>
+    requires named { AreNamed table.now names.now }
+    requires grouped { AreGrouped table.now prefixes.now.groups prefixes.now.lengths.items }
+    ensures { IfOk result (λ compact. compact ≡ best_of table.now iri.now has_value (entries_at prefixes.now.groups iri.now front)) }
+{
+    match group(prefixes, iri, front) {
+        Some(ranks) => first_free(alloc, table, names, iri, has_value, front, ranks),
+        None => Ok(None),
+    }
+}
+
+/// The shortest compact IRI that may be used, then the least. Its time grows with the number of lengths of prefixes' IRIs,
+/// with the logarithm of the terms, and with the compact IRIs that are terms and so may not be used.
 pub fn by_prefix(
     alloc: Global,
     table: &TermTable,
@@ -163,8 +185,9 @@ pub fn by_prefix(
     let mut at = prefixes.lengths.len();
     while at > 0 {
         at -= 1;
-        let places = group(prefixes, iri, prefixes.lengths[at]);
-        best = nearest(alloc, table, names, iri, has_value, places, best)?;
+        let front = prefixes.lengths[at];
+        let compact = best_at(alloc, table, names, prefixes, iri, has_value, front)?;
+        best = nearer(compact, best);
     }
     Ok(best)
 }

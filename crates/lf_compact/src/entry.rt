@@ -30,7 +30,7 @@ pub fn alone_or_array(in_array: bool, values: Vec<Json>) -> Json
     }
 }
 
-/// The container of the values' term, where one was chosen.
+// The container of the values' term, where one was chosen.
 fn group_container(group: &[Filed<'_>]) -> Container
     ensures { result ≡ def.group_container (map filed_data group.now) }
 {
@@ -42,7 +42,7 @@ fn group_container(group: &[Filed<'_>]) -> Container
     Container::NoContainer
 }
 
-/// Puts the text or scalar of a language map under its language.
+// Puts the text or scalar of a language map under its language.
 fn put_language(alloc: Global, parts: &mut Groups<Json>, filed: &Filed<'_>) -> Result<(), Memory>
     ensures { OnOk result (groups.PutsAll json_data parts.old parts.new (def.language_parts (filed_data filed.now ∷ []))) }
 {
@@ -55,7 +55,7 @@ fn put_language(alloc: Global, parts: &mut Groups<Json>, filed: &Filed<'_>) -> R
     }
 }
 
-/// The texts and scalars of a language map by their languages.
+// The texts and scalars of a language map by their languages.
 fn languages_of(alloc: Global, group: &[Filed<'_>]) -> Result<Groups<Json>, Memory>
     ensures { IfOk result (λ parts. groups.Hold json_data parts (def.language_parts (map filed_data group.now))) }
 {
@@ -66,7 +66,7 @@ fn languages_of(alloc: Global, group: &[Filed<'_>]) -> Result<Groups<Json>, Memo
     Ok(parts)
 }
 
-/// The members of a language map: one value of a language stands alone, unless it must be an array.
+// The members of a language map: one value of a language stands alone, unless it must be an array.
 fn language_members(alloc: Global, in_arrays: bool, parts: Groups<Json>) -> Result<Members, Memory>
     ensures { IfOk result (λ members. (entries : List (List ℕ × JsonValue)) → groups.Hold json_data parts entries
         → Hold members (grouped (alone_or_array in_arrays) entries)) }
@@ -85,7 +85,7 @@ fn language_members(alloc: Global, in_arrays: bool, parts: Groups<Json>) -> Resu
     Ok(members)
 }
 
-/// The language map of the values under one key.
+// The language map of the values under one key.
 fn language_map(alloc: Global, group: &[Filed<'_>]) -> Result<Json, Memory>
     ensures { IfOk result (λ json. json_data json ≡ def.language_map (map filed_data group.now)) }
 {
@@ -95,7 +95,7 @@ fn language_map(alloc: Global, group: &[Filed<'_>]) -> Result<Json, Memory>
     object_of(alloc, members)
 }
 
-/// Puts what a piece makes behind elements: the language map, where it still waits, at its first text.
+// Puts what a piece makes behind elements: the language map, where it still waits, at its first text.
 fn push_piece(
     elements: &mut Vec<Json>,
     waiting: &mut Option<Json>,
@@ -120,7 +120,7 @@ fn push_piece(
     }
 }
 
-/// The elements that the values make, in order; the language map stands at the place of its first text.
+// The elements that the values make, in order; the language map stands at the place of its first text.
 fn group_elements(
     alloc: Global,
     languages: Option<Json>,

@@ -30,8 +30,8 @@ fn under_pick<'a>(
 ) -> Result<Under<'a>, CompactErr>
     ensures { Gives under_data result (under_pick inverse.now iri.now pick.now) }
 {
-    let key = inverse.compact(alloc, iri, true, pick)?;
     let term = inverse.chosen(alloc, iri, pick)?;
+    let key = inverse.compact_under(alloc, iri, term, pick)?;
     Ok(Under { key, term })
 }
 

@@ -59,7 +59,7 @@ pub fn array_of(values: Vec<Json>) -> Json
     Json::List(ListOf::from_vec(values))
 }
 
-/// Puts the elements of an array, or any other value, behind values.
+// Puts the elements of an array, or any other value, behind values.
 fn push_elements(values: &mut Vec<Json>, value: Json) -> Result<(), Memory>
     ensures { OnOk result (map json_data values.new.items ≡ map json_data values.old.items ++ elements_of (json_data value)) }
 {
@@ -85,7 +85,7 @@ fn push(values: &mut Vec<Json>, value: Json) -> Result<(), Memory>
     Ok(())
 }
 
-/// The elements of a value.
+// The elements of a value.
 fn elements_of(alloc: Global, value: Json) -> Result<Vec<Json>, Memory>
     ensures { IfOk result (λ values. map json_data values.items ≡ elements_of (json_data value)) }
 {
@@ -94,7 +94,7 @@ fn elements_of(alloc: Global, value: Json) -> Result<Vec<Json>, Memory>
     Ok(values)
 }
 
-/// What came under a key before, and one more value.
+// What came under a key before, and one more value.
 fn one_more(alloc: Global, before: Joined, value: Json) -> Result<Joined, Memory>
     ensures { IfOk result (λ joined. joined_data joined ≡ one_more (joined_data before) (json_data value)) }
 {
@@ -128,7 +128,7 @@ pub fn add(alloc: Global, members: &mut Members, key: Text, value: Json) -> Resu
     Ok(())
 }
 
-/// What is written under a key.
+// What is written under a key.
 fn value_of(joined: Joined) -> Json
     ensures { json_data result ≡ value_of (joined_data joined) }
 {

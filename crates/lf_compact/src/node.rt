@@ -1,6 +1,5 @@
 //! Picks of nodes and references (JSON-LD 1.1 Processing Algorithms and API, section 6.2.2).
 ghost use Rattle.std.specs.Prelude.{◌≡◌, ◌∷◌, [], true, IfOk, Some, None};
-ghost use Rattle.def_selection.specs.Chosen.{stands_for};
 ghost use Rattle.def_selection.specs.Iris.{no_value, short};
 ghost use Rattle.def_selection.specs.Keywords.{at_id, at_reverse, at_vocab};
 ghost use Rattle.def_documents.specs.Picks as def;
@@ -8,21 +7,12 @@ ghost use Rattle.def_documents.specs.Picks as def;
 use crate::picks::{only, pick, scalar_pick, sets};
 use def_selection::{Pick, PickKind};
 use lf_base::{ListOf, Memory, Text, TextList};
-use lf_model::{DefaultValue, TermDef};
+use lf_model::DefaultValue;
 use lf_rdf::Term;
-use lf_select::{Inverse, SelectErr};
+use lf_select::{Inverse, SelectErr, stands_for};
 use std::alloc::Global;
 
-fn stands_for(iri: &Text, term: &TermDef) -> bool
-    ensures { result ≡ stands_for iri.now term.now }
-{
-    match &term.iri {
-        Some(own) => own.as_str() == iri.as_str(),
-        None => false,
-    }
-}
-
-/// Whether an IRI compacts to a term of this very IRI.
+// Whether an IRI compacts to a term of this very IRI.
 fn becomes_term(alloc: Global, inverse: &Inverse, iri: &Text) -> Result<bool, Memory>
     ensures { IfOk result (λ becomes. becomes
         ≡ def.becomes_term inverse.now iri.now (short inverse.now iri.now true no_value)) }
@@ -51,7 +41,7 @@ fn vocab_first(alloc: Global) -> Result<TextList, Memory>
     Ok(ListOf::from_vec(vec![in alloc; Text::of(alloc, "@vocab")?, Text::of(alloc, "@id")?]?))
 }
 
-/// The slots of a node with an id: a term's before an id's where the id compacts to a term.
+// The slots of a node with an id: a term's before an id's where the id compacts to a term.
 fn id_slots(alloc: Global, inverse: &Inverse, id: &Term) -> Result<TextList, Memory>
     ensures { IfOk result (λ names. names ≡ def.id_slots inverse.now id.now) }
 {
@@ -68,7 +58,7 @@ fn id_slots(alloc: Global, inverse: &Inverse, id: &Term) -> Result<TextList, Mem
     }
 }
 
-/// What a node asks for by its id.
+// What a node asks for by its id.
 fn id_pick(alloc: Global, inverse: &Inverse, id: &Term) -> Result<Pick, Memory>
     ensures { IfOk result (λ made. made ≡ def.node_pick inverse.now (Some id.now)) }
 {
@@ -95,7 +85,7 @@ pub fn node_pick(alloc: Global, inverse: &Inverse, id: &Option<Term>) -> Result<
     }
 }
 
-/// The slots of a node of a reverse property: a reverse term's first.
+// The slots of a node of a reverse property: a reverse term's first.
 #[tactic(auto, unfolding(def_selection::specs::Keywords::at_reverse, def_selection::specs::Keywords::at_id, def_selection::specs::Keywords::at_vocab))]
 fn turned_slots(alloc: Global, inverse: &Inverse, id: &Term) -> Result<TextList, Memory>
     ensures { IfOk result (λ names. names ≡ at_reverse ∷ def.id_slots inverse.now id.now) }

@@ -24,21 +24,21 @@ use lf_select::Inverse;
 use std::alloc::Global;
 use std::collections::BTreeMap;
 
-/// Whether there is any value.
+// Whether there is any value.
 fn has_any(values: &[Json]) -> bool
     ensures { result ≡ not (nat_eq (length values.now) 0) }
 {
     values.len() != 0
 }
 
-/// Whether there is any member.
+// Whether there is any member.
 fn holds_any(members: &Members) -> bool
     ensures { result ≡ not (nat_eq (length members.now.entries) 0) }
 {
     members.len() != 0
 }
 
-/// Puts a value under a key, or leaves it.
+// Puts a value under a key, or leaves it.
 fn add_where(
     alloc: Global,
     members: &mut Members,
@@ -55,7 +55,7 @@ fn add_where(
     }
 }
 
-/// Puts the id under the key of `@id`, unless it was pruned.
+// Puts the id under the key of `@id`, unless it was pruned.
 #[tactic(auto, unfolding(def_selection::specs::Keywords::at_id), using(lf_model::proofs::JsonLemmas::json_cases))]
 fn add_id(
     alloc: Global,
@@ -75,7 +75,7 @@ fn add_id(
     }
 }
 
-/// A compacted type.
+// A compacted type.
 #[tactic(auto, using(lf_model::proofs::JsonLemmas::json_cases))]
 fn short_type(alloc: Global, inverse: &Inverse, term: &Term) -> Result<Json, CompactErr>
     ensures { Compacted result (short_type inverse.now term.now) }
@@ -84,7 +84,7 @@ fn short_type(alloc: Global, inverse: &Inverse, term: &Term) -> Result<Json, Com
     Ok(Json::Text(compacted))
 }
 
-/// The compacted types.
+// The compacted types.
 fn short_types(alloc: Global, inverse: &Inverse, types: &[Term]) -> Result<Vec<Json>, CompactErr>
     ensures { Gives json_list result (def.short_types inverse.now types.now) }
 {
@@ -98,7 +98,7 @@ fn short_types(alloc: Global, inverse: &Inverse, types: &[Term]) -> Result<Vec<J
     Ok(made)
 }
 
-/// Whether one type is an array too: the key is `@type` and the context says so, or a term with `@set`.
+// Whether one type is an array too: the key is `@type` and the context says so, or a term with `@set`.
 #[tactic(auto, unfolding(def_selection::specs::Keywords::at_type))]
 fn types_in_array(inverse: &Inverse, key: &Text) -> bool
     ensures { result ≡ def.types_in_array inverse.now key.now }
@@ -109,7 +109,7 @@ fn types_in_array(inverse: &Inverse, key: &Text) -> bool
     has_set(container_of(inverse.term_named(key)))
 }
 
-/// Puts compacted types under the key of `@type`, where there are any.
+// Puts compacted types under the key of `@type`, where there are any.
 #[tactic(auto, unfolding(def_selection::specs::Keywords::at_type))]
 fn add_type_names(
     alloc: Global,
@@ -125,7 +125,7 @@ fn add_type_names(
     add_where(alloc, members, key, alone_or_array(in_array, types), some)
 }
 
-/// Puts the types under the key of `@type`, where there are any.
+// Puts the types under the key of `@type`, where there are any.
 #[tactic(auto, using(crate::proofs::NodeParts::types_none))]
 fn add_types(
     alloc: Global,
@@ -155,7 +155,7 @@ pub fn begin_node(
     Ok(members)
 }
 
-/// An array of values.
+// An array of values.
 #[tactic(auto, using(lf_model::proofs::JsonLemmas::json_cases))]
 fn array_json(values: Vec<Json>) -> Json
     ensures { json_data result ≡ array (items_of (map json_data values.items)) }
@@ -163,7 +163,7 @@ fn array_json(values: Vec<Json>) -> Json
     Json::List(ListOf::from_vec(values))
 }
 
-/// Puts the nodes of a graph under the key of `@graph`, always as an array.
+// Puts the nodes of a graph under the key of `@graph`, always as an array.
 #[tactic(auto, unfolding(def_selection::specs::Keywords::at_graph), using(lf_model::proofs::JsonLemmas::json_cases))]
 fn add_graph(
     alloc: Global,
@@ -178,7 +178,7 @@ fn add_graph(
     add_where(alloc, members, key, array_json(graph), some)
 }
 
-/// Puts the values that were filed under no reverse term under the key of `@reverse`.
+// Puts the values that were filed under no reverse term under the key of `@reverse`.
 #[tactic(auto, unfolding(def_selection::specs::Keywords::at_reverse))]
 fn add_reverse(
     alloc: Global,

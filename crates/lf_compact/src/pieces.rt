@@ -80,7 +80,7 @@ pub fn is_set(container: Container) -> bool
     }
 }
 
-/// A text or scalar under its language, or under the alias of `@none` where it has none.
+// A text or scalar under its language, or under the alias of `@none` where it has none.
 #[tactic(auto, unfolding(def_selection::specs::Keywords::at_none))]
 fn piece_in_language(alloc: Global, inverse: &Inverse, plain: Plain) -> Result<Piece, Memory>
     ensures { IfOk result (λ piece. piece_data piece ≡ def.piece_in_language inverse.now (plain_data plain)) }
@@ -99,7 +99,7 @@ fn piece_in_language(alloc: Global, inverse: &Inverse, plain: Plain) -> Result<P
     }
 }
 
-/// What a default gives in a language map.
+// What a default gives in a language map.
 fn default_piece(
     alloc: Global,
     inverse: &Inverse,
@@ -123,7 +123,7 @@ fn default_piece(
     }
 }
 
-/// What a value gives in a language map: literals and scalars go under their languages.
+// What a value gives in a language map: literals and scalars go under their languages.
 fn mapped_piece(
     alloc: Global,
     inverse: &Inverse,
@@ -148,7 +148,7 @@ fn mapped_piece(
     }
 }
 
-/// What a value gives outside a language map: an empty default gives nothing.
+// What a value gives outside a language map: an empty default gives nothing.
 fn plain_piece(value: &TreeValue, json: Json) -> Piece
     ensures { piece_data result ≡ def.plain_piece (entry_data value.now) (json_data json) }
 {

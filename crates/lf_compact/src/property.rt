@@ -23,7 +23,7 @@ pub struct FiledProperty<'a> {
     pub values: Vec<Filed<'a>>,
 }
 
-/// Values by their keys.
+// Values by their keys.
 fn by_key<'a>(alloc: Global, values: Vec<Filed<'a>>) -> Result<Groups<Filed<'a>>, Memory>
     ensures { IfOk result (λ groups. Hold filed_data groups (keyed (filed_list values.entry))) }
 {
@@ -35,7 +35,7 @@ fn by_key<'a>(alloc: Global, values: Vec<Filed<'a>>) -> Result<Groups<Filed<'a>>
     Ok(groups)
 }
 
-/// Puts the values of each key, made one entry, into a map.
+// Puts the values of each key, made one entry, into a map.
 fn add_groups(alloc: Global, members: &mut Members, groups: Groups<Filed<'_>>) -> Result<(), Memory>
     ensures { OnOk result ((entries : List (List ℕ × def.Filed)) → Hold filed_data groups.entry entries
         → AddsEntries members.old members.new (grouped def.group_entry entries)) }
@@ -49,7 +49,7 @@ fn add_groups(alloc: Global, members: &mut Members, groups: Groups<Filed<'_>>) -
     Ok(())
 }
 
-/// Puts the entries of a property into a map.
+// Puts the entries of a property into a map.
 fn add_property(alloc: Global, members: &mut Members, values: Vec<Filed<'_>>) -> Result<(), Memory>
     ensures { OnOk result (AddsEntries members.old members.new (def.property_entries (filed_list values.entry))) }
 {
@@ -57,7 +57,7 @@ fn add_property(alloc: Global, members: &mut Members, values: Vec<Filed<'_>>) ->
     add_groups(alloc, members, groups)
 }
 
-/// Puts the entries of several lists of values of one property into a map.
+// Puts the entries of several lists of values of one property into a map.
 fn add_lists(alloc: Global, members: &mut Members, lists: Vec<Vec<Filed<'_>>>) -> Result<(), Memory>
     ensures { OnOk result (AddsEntries members.old members.new (flat_map def.property_entries (map filed_list lists.entry.items))) }
 {
@@ -67,7 +67,7 @@ fn add_lists(alloc: Global, members: &mut Members, lists: Vec<Vec<Filed<'_>>>) -
     Ok(())
 }
 
-/// The values of properties by the properties' IRIs.
+// The values of properties by the properties' IRIs.
 fn by_iri<'a>(
     alloc: Global,
     properties: Vec<FiledProperty<'a>>,
@@ -81,7 +81,7 @@ fn by_iri<'a>(
     Ok(groups)
 }
 
-/// Puts the entries of properties into a map, property by property.
+// Puts the entries of properties into a map, property by property.
 fn add_properties(
     alloc: Global,
     members: &mut Members,

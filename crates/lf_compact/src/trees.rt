@@ -29,7 +29,7 @@ fn all_four(first: bool, second: bool, third: bool, fourth: bool) -> bool
     first && second && third && fourth
 }
 
-/// Whether a node has nothing but an id.
+// Whether a node has nothing but an id.
 fn has_only_id(tree: &Tree) -> bool
     ensures { result ≡ has_only_id (tree_data tree.now) }
 {
@@ -41,7 +41,7 @@ fn has_only_id(tree: &Tree) -> bool
     )
 }
 
-/// The id of a node that has nothing but an id.
+// The id of a node that has nothing but an id.
 #[tactic(auto, using(crate::proofs::Sole::lone))]
 fn lone_id(tree: &Tree) -> Option<&Term>
     ensures { option_copied result ≡ lone_id_of (tree_data tree.now) }
@@ -53,14 +53,14 @@ fn lone_id(tree: &Tree) -> Option<&Term>
     }
 }
 
-/// Whether these are the one value of a property.
+// Whether these are the one value of a property.
 fn is_sole(values: &[TreeValue]) -> bool
     ensures { result ≡ def.is_sole (entries_data values.now) }
 {
     values.len() == 1
 }
 
-/// A node under a chosen term, or none.
+// A node under a chosen term, or none.
 #[cycle(compacting)]
 fn node_json(
     alloc: Global,
@@ -76,7 +76,7 @@ fn node_json(
     }
 }
 
-/// The map of a node.
+// The map of a node.
 #[cycle(compacting)]
 fn map_json(alloc: Global, inverse: &Inverse, tree: &Tree) -> Result<Json, CompactErr>
     ensures { Compacted result (map_json inverse.now (tree_data tree.now)) }
@@ -192,7 +192,7 @@ fn value_filed<'a>(
     }
 }
 
-/// A value under a chosen term, or none.
+// A value under a chosen term, or none.
 #[cycle(compacting)]
 fn value_json(
     alloc: Global,

@@ -24,7 +24,7 @@ pub struct Split<'a> {
     pub unturned: Vec<FiledProperty<'a>>,
 }
 
-/// Whether a value was filed under a reverse term.
+// Whether a value was filed under a reverse term.
 fn is_turned(filed: &Filed<'_>) -> bool
     ensures { result ≡ is_turned (filed_data filed.now) }
 {

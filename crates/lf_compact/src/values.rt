@@ -1,5 +1,6 @@
 //! Compaction of values (JSON-LD 1.1 Processing Algorithms and API, section 6.1.2).
 ghost use Rattle.std.specs.Prelude.{◌≡◌, ◌∷◌, IfOk};
+ghost use Rattle.lf_base.specs.Ascii as ch;
 ghost use Rattle.lf_rdf.specs.Equality.{option_eq, text_eq};
 ghost use Rattle.std.specs.Option.{option_copied};
 ghost use Rattle.lf_model.specs.JsonBridge.{json_data};
@@ -39,10 +40,10 @@ fn counted_datatype(alloc: Global, datatype: &Text) -> Result<Option<Text>, Memo
     }
 }
 
-/// The id of a blank node as a JSON value.
+// The id of a blank node as a JSON value.
 #[tactic(auto, using(lf_model::proofs::JsonLemmas::json_cases))]
 fn blank_json(alloc: Global, label: &Text) -> Result<Json, Memory>
-    ensures { IfOk result (λ json. json_data json ≡ text (95 ∷ 58 ∷ label.now)) }
+    ensures { IfOk result (λ json. json_data json ≡ text (ch.underscore ∷ ch.colon ∷ label.now)) }
 {
     let mut id = String::from_str(alloc, "_:")?;
     id.push_str(label.as_str())?;
@@ -147,7 +148,7 @@ fn is_same(one: &Option<Text>, two: &Option<Text>) -> bool
     }
 }
 
-/// Whether a text's language is the one that it has without saying so: the term's, else the table's.
+// Whether a text's language is the one that it has without saying so: the term's, else the table's.
 fn has_language_under(table: &TermTable, term: Option<&TermDef>, language: &Option<Text>) -> bool
     ensures { result ≡ option_eq text_eq language.now (def.language_under table.now (option_copied term.entry)) }
 {

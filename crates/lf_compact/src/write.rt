@@ -49,7 +49,7 @@ pub fn only_under(
     object_of(alloc, members)
 }
 
-/// Puts a datatype under the key of `@type`, where there is one.
+// Puts a datatype under the key of `@type`, where there is one.
 #[tactic(auto, unfolding(def_selection::specs::Keywords::at_type), using(lf_model::proofs::JsonLemmas::json_cases))]
 fn add_datatype(
     alloc: Global,
@@ -69,7 +69,7 @@ fn add_datatype(
     }
 }
 
-/// Puts a language under the key of `@language`, where there is one.
+// Puts a language under the key of `@language`, where there is one.
 #[tactic(auto, unfolding(def_selection::specs::Keywords::at_language), using(lf_model::proofs::JsonLemmas::json_cases))]
 fn add_language(
     alloc: Global,
@@ -85,7 +85,7 @@ fn add_language(
     }
 }
 
-/// A map of a value and, where there are, of its datatype and its language.
+// A map of a value and, where there are, of its datatype and its language.
 #[tactic(auto, unfolding(def_selection::specs::Keywords::at_value))]
 fn value_object(alloc: Global, inverse: &Inverse, plain: Plain) -> Result<Json, CompactErr>
     ensures { Compacted result (def.value_object inverse.now (plain_data plain)) }
@@ -126,7 +126,7 @@ pub fn literal_json(
     plain_json(alloc, inverse, term, plain)
 }
 
-/// A compacted id: the id alone where the term's coercion says that it is one, otherwise a map of it.
+// A compacted id: the id alone where the term's coercion says that it is one, otherwise a map of it.
 #[tactic(auto, unfolding(def_selection::specs::Keywords::at_id, def_selection::specs::Keywords::at_vocab), using(lf_model::proofs::JsonLemmas::json_cases))]
 fn reference_value(
     alloc: Global,
@@ -182,7 +182,7 @@ pub fn default_json(
     }
 }
 
-/// Whether a term's container is `@list`.
+// Whether a term's container is `@list`.
 fn is_list(term: Option<&TermDef>) -> bool
     ensures { result ≡ is_list_container (container_of (option_copied term.entry)) }
 {

@@ -30,7 +30,7 @@ use Rattle.lf_index.specs.Low.{least, lowest_subject, lowest_object, lowest_grap
 use Rattle.lf_index.specs.Reach.{label_in, reaches, answers_to, reached, nodes_reached}
 use Rattle.lf_index.specs.Indexed.{SetOf, names_for}
 use Rattle.lf_index.proofs.OrderLemmas.{then_assoc, term_strictly}
-use Rattle.lf_index.proofs.SetLemmas.{set_alike, set_filter, same_ties, any_alike, has-set_of, or_false}
+use Rattle.lf_order.proofs.SetLemmas.{set_alike, set_filter, same_ties, any_alike, has-set_of, or_false}
 use Rattle.lf_index.proofs.ScanLemmas.{IsScan, scanned}
 
 -- ---- the least terms

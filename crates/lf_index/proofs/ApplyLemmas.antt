@@ -17,10 +17,11 @@ use Rattle.def_datasets.specs.Questions.{named}
 use Rattle.def_datasets.proofs.SortedLaws.{IsStrict, has-put, has-filter}
 use Rattle.def_datasets.proofs.OrderLaws.{quad_strict, id_strict, quad_decides}
 use Rattle.lf_ptree.specs.Pairs.{keys}
-use Rattle.lf_index.specs.Orders.{term_order, subject_order, object_order, graph_order}
+use Rattle.lf_index.specs.Orders.{subject_order}
 use Rattle.lf_index.specs.Indexed.{SetOf, quads_of, IsIndexed}
-use Rattle.lf_index.proofs.OrderLemmas.{term_strictly, subject_strictly, object_strictly, graph_strictly}
-use Rattle.lf_index.proofs.SetLemmas.{has-set_of, set_alike, same_ties, any_alike}
+use Rattle.lf_index.proofs.OrderLemmas.{subject_strictly}
+use Rattle.lf_order.proofs.Ties.{equal_from}
+use Rattle.lf_order.proofs.SetLemmas.{has-set_of, set_alike, same_ties, any_alike}
 use Rattle.lf_index.proofs.AnswerLemmas.{any-flat_map, label_named, filter_both}
 use Rattle.lf_index.proofs.IndexLemmas.{put_new}
 
@@ -63,17 +64,13 @@ terms_told es =
 -- ---- the first quads
 
 module _ {A : Type 0} {same : A → A → Bool} {cmp : A → A → Ordering} (o : IsStrict same cmp) where
-  pub sorted_has : (xs ys : List A) → ((z : A) → list_any (λ y. is_eq (cmp z y)) xs ≡ list_any (λ y. is_eq (cmp z y)) ys) → (z : A) → has same xs z ≡ has same ys z
-  sorted_has xs ys alike z =
-      let as_ties : (λ (y : A). same z y) ≡ (λ (y : A). is_eq (cmp z y)) = λ i y. same_ties o z y i in
-      ap (λ (test : A → Bool). list_any test xs) as_ties ∙ (alike z ∙ sym (ap (λ (test : A → Bool). list_any test ys) as_ties))
-
--- what has the members of a list that is another
-pub by_members : {K : Type 0} (cmp : K → K → Ordering) (ks sorted from adds : List K) → ks ≡ sorted
-    → ((z : K) → list_any (λ y. is_eq (cmp z y)) sorted ≡ list_any (λ y. is_eq (cmp z y)) from) → from ≡ adds
-    → (z : K) → list_any (λ y. is_eq (cmp z y)) ks ≡ list_any (λ y. is_eq (cmp z y)) adds
-by_members cmp ks sorted from adds one alike two z =
-    ap (list_any (λ y. is_eq (cmp z y))) one ∙ (alike z ∙ ap (list_any (λ y. is_eq (cmp z y))) two)
+  -- what has the members of a list that is another
+  pub by_members : (ks sorted from adds : List A) → ks ≡ sorted
+      → ((test : A → Bool) → ((x y : A) → is_eq (cmp x y) ≡ true → test x ≡ test y) → list_any test sorted ≡ list_any test from) → from ≡ adds
+      → (z : A) → has same ks z ≡ has same adds z
+  by_members ks sorted from adds one alike two z =
+      ap (list_any (same z)) one
+      ∙ (alike (same z) (λ x y tie. ap (same z) (o.tells x y (equal_from (cmp x y) tie))) ∙ ap (list_any (same z)) two)
 
 or_none : (a b : Bool) → a ≡ false → b ≡ false → (a || b) ≡ false
 or_none true b e f = absurd (true≢false e)
@@ -121,23 +118,14 @@ labels_told quads t = any-flat_map (term_eq t) (λ q. label_terms q.graph) quads
 -- four sorted sets of the same quads are an index
 pub indexed_sorted : (adds : List Quad) (subjects objects graphs : SetOf Quad) (names : SetOf Term) (count : ℕ)
     → IsStrictlySortedBy subject_order (keys subjects)
-    → ((z : Quad) → list_any (λ y. is_eq (subject_order z y)) (keys subjects) ≡ list_any (λ y. is_eq (subject_order z y)) adds)
-    → ((z : Quad) → list_any (λ y. is_eq (object_order z y)) (keys objects) ≡ list_any (λ y. is_eq (object_order z y)) adds)
-    → ((z : Quad) → list_any (λ y. is_eq (graph_order z y)) (keys graphs) ≡ list_any (λ y. is_eq (graph_order z y)) adds)
-    → ((z : Term) → list_any (λ y. is_eq (term_order z y)) (keys names) ≡ list_any (λ y. is_eq (term_order z y)) (flat_map (λ q. label_terms q.graph) adds))
+    → ((z : Quad) → holds (keys subjects) z ≡ holds adds z) → ((z : Quad) → holds (keys objects) z ≡ holds adds z)
+    → ((z : Quad) → holds (keys graphs) z ≡ holds adds z)
+    → ((z : Term) → has term_eq (keys names) z ≡ has term_eq (flat_map (λ q. label_terms q.graph) adds) z)
     → count ≡ length (keys subjects) → IsIndexed subjects objects graphs names count
-indexed_sorted adds subjects objects graphs names count sorted by_s by_o by_g by_n counted =
-    let in_subjects : (z : Quad) → holds (keys subjects) z ≡ holds adds z = sorted_has subject_strictly (keys subjects) adds by_s in
+indexed_sorted adds subjects objects graphs names count sorted in_subjects in_objects in_graphs in_names counted =
     record {
-      objects_alike = λ z. sorted_has object_strictly (keys objects) adds by_o z ∙ sym (in_subjects z);
-      graphs_alike = λ z. sorted_has graph_strictly (keys graphs) adds by_g z ∙ sym (in_subjects z);
-      names_told = λ t.
-          sorted_has term_strictly (keys names) (flat_map (λ q. label_terms q.graph) adds) by_n t
-          ∙ (labels_told adds t ∙ sym (any_alike quad_strict (lies_in (graph.Named t)) (keys subjects) adds in_subjects));
+      objects_alike = λ z. in_objects z ∙ sym (in_subjects z);
+      graphs_alike = λ z. in_graphs z ∙ sym (in_subjects z);
+      names_told = λ t. in_names t ∙ (labels_told adds t ∙ sym (any_alike quad_strict (lies_in (graph.Named t)) (keys subjects) adds in_subjects));
       counted = counted ∙ each_once (keys subjects) sorted;
     }
-
-pub quads_sorted : (adds : List Quad) (subjects : SetOf Quad)
-    → ((z : Quad) → list_any (λ y. is_eq (subject_order z y)) (keys subjects) ≡ list_any (λ y. is_eq (subject_order z y)) adds)
-    → quads_of subjects ≡ dataset_of adds
-quads_sorted adds subjects by_s = set_alike quad_strict (keys subjects) adds (sorted_has subject_strictly (keys subjects) adds by_s)

@@ -20,7 +20,7 @@ use Rattle.lf_index.specs.Orders.{subject_order, object_order, graph_order}
 use Rattle.lf_index.specs.Low.{least, lowest_subject, lowest_object, lowest_graph}
 use Rattle.lf_index.specs.Reach.{label_in, reached, nodes_reached}
 use Rattle.lf_index.specs.Indexed.{SetOf, quads_of, IsIndexed, names_for}
-use Rattle.lf_index.proofs.SetLemmas.{set_alike, any_alike}
+use Rattle.lf_order.proofs.SetLemmas.{set_alike, any_alike}
 use Rattle.lf_index.proofs.IndexLemmas.{held}
 use Rattle.lf_index.proofs.AnswerLemmas.{out_answered, out_any_answered, inward_answered, inward_any_answered, uses_answered, members_answered}
 

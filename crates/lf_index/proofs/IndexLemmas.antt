@@ -22,7 +22,7 @@ use Rattle.lf_ptree.specs.Pairs.{Ascends, keys, put_pair, without_key, value_at}
 use Rattle.lf_index.specs.Orders.{term_order, subject_order, object_order, graph_order}
 use Rattle.lf_index.specs.Indexed.{SetOf, quads_of, IsIndexed, with_label, without_label}
 use Rattle.lf_index.proofs.OrderLemmas.{term_strictly, subject_strictly, object_strictly, graph_strictly}
-use Rattle.lf_index.proofs.SetLemmas.{has-set_of, same_ties, any_alike, or_false}
+use Rattle.lf_order.proofs.SetLemmas.{has-set_of, same_ties, any_alike, or_false}
 
 -- ---- a key more and a key less
 

@@ -1,5 +1,4 @@
 pub mod OrderLemmas
-pub mod SetLemmas
 pub mod ScanLemmas
 pub mod AnswerLemmas
 pub mod LoopLemmas

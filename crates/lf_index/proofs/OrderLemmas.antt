@@ -7,19 +7,10 @@ use Rattle.lf_rdf.specs.Equality.{term_eq, quad_eq}
 use Rattle.def_datasets.specs.Order.{parts_cmp, term_parts}
 use Rattle.def_datasets.proofs.SortedLaws.{IsStrict}
 use Rattle.def_datasets.proofs.OrderLaws.{then_second, parts_tell, term_from_parts, term_decides, quad_decides}
+use Rattle.lf_order.proofs.Ties.{then_first}
 use Rattle.lf_index.specs.Numbers.{number_of}
 use Rattle.lf_index.specs.Orders.{term_order, label_order, subjects, predicates, objects, graphs, subject_order, object_order, graph_order}
 use Rattle.lf_index.specs.TotalOrders.{term_total, subject_total, object_total, graph_total}
-
-pub then_equal : (r : Ordering) → ordering_then r Equal ≡ r
-then_equal Less = refl
-then_equal Equal = refl
-then_equal Greater = refl
-
-pub then_first : (r s : Ordering) → ordering_then r s ≡ Equal → r ≡ Equal
-then_first Less s e = e
-then_first Equal s e = refl
-then_first Greater s e = e
 
 pub then_assoc : (r s t : Ordering) → ordering_then (ordering_then r s) t ≡ ordering_then r (ordering_then s t)
 then_assoc Less s t = refl

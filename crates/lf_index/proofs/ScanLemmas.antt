@@ -4,14 +4,10 @@ use Rattle.std.specs.List.{take_while, AllByRecursion}
 use Rattle.std.specs.List.Sorted.{IsStrictlySortedBy}
 use Rattle.std.specs.Ordering.{is_eq, is_lt, ordering_then}
 use Rattle.std.specs.Cmp.{IsTotalOrder, alike_right}
-use Rattle.std.proofs.lemmas.Bool.{true≢false, false≢true}
+use Rattle.std.proofs.lemmas.Bool.{true≢false}
 use Rattle.std.proofs.lemmas.List.Sums.{take_while-cons}
+use Rattle.lf_order.proofs.Ties.{equal_from}
 use Rattle.lf_ptree.specs.Pairs.{Ascends, keys, pairs_from}
-
-pub equal_from : (r : Ordering) → is_eq r ≡ true → r ≡ Equal
-equal_from Less e = absurd (false≢true e)
-equal_from Equal e = refl
-equal_from Greater e = absurd (false≢true e)
 
 -- A test that holds where the first places of an order tie with those of a least value.
 pub record IsScan {K : Type 0} (cmp head tail : K → K → Ordering) (low : K) (p : K → Bool) : Type 0 where

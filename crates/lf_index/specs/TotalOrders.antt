@@ -4,8 +4,8 @@ use Rattle.std.specs.Cmp.Lexicographic.{options_total}
 use Rattle.std.specs.Ordering.{eq_by_cmp}
 use Rattle.std.proofs.lemmas.Cmp.{on_total, then_total, lists_total, nat_list_cmp_total, eq_by_cmp_equiv}
 use Rattle.lf_rdf.specs.declared.quad.Quad.{Quad}
-use Rattle.def_datasets.specs.Order.{term_parts, quad_cmp, id_cmp}
-use Rattle.def_datasets.proofs.OrderLaws.{quad_strict, id_strict}
+use Rattle.def_datasets.specs.Order.{term_parts, quad_cmp}
+use Rattle.def_datasets.proofs.OrderLaws.{quad_strict}
 use Rattle.lf_index.specs.Numbers.{number_of}
 use Rattle.lf_index.specs.Orders.{term_order, label_order, subjects, predicates, objects, graphs, subject_order, object_order, graph_order}
 
@@ -50,16 +50,10 @@ object_equivalence = eq_by_cmp_equiv object_total
 pub graph_equivalence : IsEquivalence (eq_by_cmp graph_order)
 graph_equivalence = eq_by_cmp_equiv graph_total
 
--- ---- the orders of answers
+-- ---- the order of answers
 
 pub quad_total : IsTotalOrder quad_cmp
 quad_total = quad_strict.total
 
-pub id_total : IsTotalOrder id_cmp
-id_total = id_strict.total
-
 pub quad_equivalence : IsEquivalence (eq_by_cmp quad_cmp)
 quad_equivalence = eq_by_cmp_equiv quad_total
-
-pub id_equivalence : IsEquivalence (eq_by_cmp id_cmp)
-id_equivalence = eq_by_cmp_equiv id_total

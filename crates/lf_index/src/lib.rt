@@ -14,7 +14,6 @@ mod index;
 mod lined;
 mod lines;
 mod low;
-mod named_by_id;
 mod names;
 mod parts;
 mod reach;
@@ -22,7 +21,6 @@ mod recent;
 mod row;
 mod scan;
 mod shared;
-mod sorted;
 mod terms;
 #[cfg(test)]
 mod tests;

@@ -8,11 +8,11 @@ ghost use Rattle.lf_index.specs.Indexed.{names_for, with_label, without_label};
 
 use crate::by_graph::ByGraph;
 use crate::low::lowest_graph;
-use crate::named_by_id::ById;
 use crate::row::Row;
 use crate::scan::Keyed;
 use crate::shared::Shared;
 use lf_base::{Memory, Same};
+use lf_order::ById;
 use lf_ptree::PMap;
 use lf_rdf::{GraphRef, Term};
 use std::alloc::Global;

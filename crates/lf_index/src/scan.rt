@@ -1,13 +1,14 @@
 //! Scans of the rows of an order, from a place on as far as a question reaches.
-ghost use Rattle.std.specs.Prelude.{◌≡◌, IfOk, map};
+ghost use Rattle.std.specs.Prelude.{◌≡◌, ◌++◌, IfOk, OnOk, map};
+ghost use Rattle.def_datasets.specs.Questions.{nodes_in};
 ghost use Rattle.lf_ptree.specs.Ranges.{pairs_left};
 ghost use Rattle.lf_index.specs.Reach.{nodes_reached, reached};
 
 use crate::lined::Lined;
-use crate::named_by_id::{ById, put_nodes};
-use crate::reach::{answers_to, reaches};
+use crate::reach::{answers_to, reaches, tells_type};
 use crate::row::Row;
 use lf_base::Memory;
+use lf_order::{ById, put_node};
 use lf_ptree::Pairs;
 use lf_rdf::Question;
 use std::alloc::Global;
@@ -62,4 +63,15 @@ pub fn nodes_reached<K: Keyed>(
         put_nodes(alloc, &mut found, row)?;
     }
     Ok(found)
+}
+
+// The nodes that a quad puts into its graph.
+fn put_nodes(alloc: Global, found: &mut Vec<ById>, row: &Row) -> Result<(), Memory>
+    ensures { OnOk result (found.new.items ≡ found.old.items ++ nodes_in row.now) }
+{
+    put_node(alloc, found, row.subject.term())?;
+    if tells_type(row) {
+        return Ok(());
+    }
+    put_node(alloc, found, row.object.term())
 }

@@ -4,8 +4,8 @@ ghost use Rattle.lf_rdf.specs.declared.term.Term.TheVariants.{Iri};
 ghost use Rattle.lf_index.specs.Numbers.{mixed, number_of};
 ghost use Rattle.lf_index.specs.Orders.{label_order, term_order};
 
-use crate::parts::by_parts;
 use lf_base::{Memory, Text, TryCopy};
+use lf_order::by_parts;
 use lf_rdf::Term;
 use std::alloc::Global;
 use std::cmp::Ordering;

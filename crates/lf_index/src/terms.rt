@@ -6,10 +6,10 @@ ghost use Rattle.lf_ptree.specs.Pairs.{keys};
 
 use crate::by_subject::BySubject;
 use crate::index::Index;
-use crate::named_by_id::{ById, in_id_order, put_node};
 use crate::row::Row;
 use crate::scan::Keyed;
 use lf_base::Memory;
+use lf_order::{ById, in_id_order, put_node};
 use lf_ptree::PMap;
 use lf_rdf::TermList;
 use std::alloc::Global;

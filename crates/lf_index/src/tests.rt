@@ -281,6 +281,18 @@ const GRAPHS: &str = "<http://e/a> <http://e/p> \"1\" <http://e/g> .
 _:h <http://e/p> _:h _:h .
 ";
 
+// A cell that has a use in another graph, and so is none.
+const NO_LIST: &str = "<http://e/a> <http://e/l> _:c .
+<http://e/b> <http://e/l> _:c <http://e/g> .
+_:c <http://www.w3.org/1999/02/22-rdf-syntax-ns#first> \"1\" .
+_:c <http://www.w3.org/1999/02/22-rdf-syntax-ns#rest> <http://www.w3.org/1999/02/22-rdf-syntax-ns#nil> .
+";
+
+// A node that is the first item of its own list.
+const OWN_ITEM: &str = "_:c <http://www.w3.org/1999/02/22-rdf-syntax-ns#first> _:c .
+_:c <http://www.w3.org/1999/02/22-rdf-syntax-ns#rest> <http://www.w3.org/1999/02/22-rdf-syntax-ns#nil> .
+";
+
 // The quads of the default graph among these, and one more.
 const FEWER: &str = "<http://e/a> <http://e/p> <http://e/a> .
 <http://e/b> <http://e/q> \"z\"@en .
@@ -293,6 +305,16 @@ const CHANGE: &str = "- <http://e/a> <http://e/p> \"1\" <http://e/g> .
 - <http://e/b> <http://e/q> \"absent\" .
 - <http://e/a> <http://e/p> <http://e/b> _:h .
 - _:h <http://e/p> _:h _:h .
+";
+
+// A quad of these that goes, and one that comes back.
+const AGAIN: &str = "<http://e/a> <http://e/p> \"1\" <http://e/g> .
+- <http://e/b> <http://e/q> _:h .
+";
+
+const LAST: &str = "<http://e/a> <http://e/p> \"1\" <http://e/g> .
+<http://e/a> <http://e/p> <http://e/a> .
+<http://e/b> <http://e/q> \"z\"@en .
 ";
 
 // The second version, the first one with a quad that goes and comes, and the first one itself behind them.
@@ -308,6 +330,66 @@ fn versions<L: Ledger>(
     Ok(once && twice && stays)
 }
 
+// Three versions that are asked while all of them are kept, the newest first.
+fn are_kept<L: Ledger>(
+    alloc: Global,
+    first: &Index,
+    second: &Index,
+    third: &Index,
+    steps: &mut Steps<L>,
+) -> Result<bool, Memory> {
+    let newest = is_listed(alloc, third, LAST, steps)?;
+    let middle = is_listed(alloc, second, FEWER, steps)?;
+    let oldest = is_listed(alloc, first, GRAPHS, steps)?;
+    Ok(newest && middle && oldest)
+}
+
+// The third version behind the first two.
+fn of_second<L: Ledger>(
+    alloc: Global,
+    first: &Index,
+    second: &Index,
+    steps: &mut Steps<L>,
+) -> Result<bool, ApplyErr> {
+    let patch = patch(alloc, AGAIN)?;
+    let applied = second.apply(alloc, &patch);
+    drop(patch);
+    match applied {
+        Ok(third) => {
+            let held = are_kept(alloc, first, second, &third, steps);
+            drop(third);
+            Ok(held?)
+        }
+        Err(error) => Err(error),
+    }
+}
+
+// The second and the third version behind the first one.
+fn chain<L: Ledger>(alloc: Global, first: &Index, steps: &mut Steps<L>) -> Result<bool, ApplyErr> {
+    let patch = patch(alloc, CHANGE)?;
+    let applied = first.apply(alloc, &patch);
+    drop(patch);
+    match applied {
+        Ok(second) => {
+            let held = of_second(alloc, first, &second, steps);
+            drop(second);
+            held
+        }
+        Err(error) => Err(error),
+    }
+}
+
+// The versions one by one, and in a chain.
+fn both_ways<L: Ledger>(
+    alloc: Global,
+    first: &Index,
+    steps: &mut Steps<L>,
+) -> Result<bool, ApplyErr> {
+    let single = versions(alloc, first, steps)?;
+    let chained = chain(alloc, first, steps)?;
+    Ok(single && chained)
+}
+
 // What holds of the versions of the index of a text's quads.
 fn of_first<L: Ledger>(
     alloc: Global,
@@ -320,12 +402,26 @@ fn of_first<L: Ledger>(
     drop(patch);
     match applied {
         Ok(first) => {
-            let held = versions(alloc, &first, steps);
+            let held = both_ways(alloc, &first, steps);
             drop(first);
             held
         }
         Err(error) => Err(error),
     }
+}
+
+// The index of each text beside the list.
+fn first_listed<L: Ledger>(
+    alloc: Global,
+    empty: &Index,
+    steps: &mut Steps<L>,
+) -> Result<bool, ApplyErr> {
+    for text in [CELLS, GRAPHS, NO_LIST, OWN_ITEM] {
+        if !becomes(alloc, empty, text, text, steps)? {
+            return Ok(false);
+        }
+    }
+    Ok(true)
 }
 
 // The index of each text beside the list, and the versions of one.
@@ -335,10 +431,9 @@ fn all_agree<L: Ledger>(alloc: Global, empty: &Index, blank: Blank) -> Result<bo
     requires one { 0 < blank.parts }
 {
     let mut steps = Steps::<L>::of(blank);
-    let cells = becomes(alloc, empty, CELLS, CELLS, &mut steps)?;
-    let graphs = becomes(alloc, empty, GRAPHS, GRAPHS, &mut steps)?;
+    let first = first_listed(alloc, empty, &mut steps)?;
     let versions = of_first(alloc, empty, GRAPHS, &mut steps)?;
-    Ok(cells && graphs && versions)
+    Ok(first && versions)
 }
 
 #[test]

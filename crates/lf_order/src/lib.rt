@@ -9,4 +9,4 @@ mod texts;
 pub use by_id::{ById, id_text, in_id_order, put_node};
 pub use parts::by_parts;
 pub use sorted::sorted_set;
-pub use texts::text_of;
+pub use texts::{put_term, text_of};

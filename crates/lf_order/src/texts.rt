@@ -15,8 +15,8 @@ pub fn text_of(alloc: Global, term: &Term) -> Result<Vec<u8>, Memory>
     Ok(made)
 }
 
-// The text of a term.
-fn put_term(made: &mut Vec<u8>, term: &Term) -> Result<(), Memory>
+/// Puts the canonical text of a term behind other bytes.
+pub fn put_term(made: &mut Vec<u8>, term: &Term) -> Result<(), Memory>
     ensures { OnOk result (made.new.items ≡ made.old.items ++ term_text term.now) }
 {
     match term {

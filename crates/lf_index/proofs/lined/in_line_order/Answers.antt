@@ -1,7 +1,7 @@
 use Rattle.std.proofs.Common.{◌∙◌}
 use Rattle.std.proofs.lemmas.Result.{IfOk-weaker}
 use Rattle.def_datasets.proofs.OrderLaws.{quad_strict}
-use Rattle.lf_index.proofs.SetLemmas.{sorted_set_of}
+use Rattle.lf_order.proofs.SetLemmas.{sorted_set_of}
 use Rattle.lf_index.proofs.lined.in_line_order.Goals as goal
 
 pub returns : goal.returns

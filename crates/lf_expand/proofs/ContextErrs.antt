@@ -1,5 +1,5 @@
 -- The answers of a context as those of its frame.
-use Rattle.std.proofs.Common.{Result, Ok, Err, ap, subst, sym, ◌≡◌}
+use Rattle.std.proofs.Common.{Result, Err, subst, sym, ◌≡◌}
 use Rattle.lf_model.specs.declared.error.LdError.{LdError}
 use Rattle.lf_context.specs.declared.error.ContextErr.{ContextErr}
 use Rattle.lf_context.specs.declared.error.ContextErr.TheVariants as context

@@ -1,6 +1,5 @@
 -- Lists that are gathered item by item, and what is left of items and members.
-use Rattle.std.proofs.Common.{◌≡◌, ℕ, zero, suc, ◌+◌, ◌<◌, ◌≤◌, List, [], ◌∷◌, ◌++◌, length, drop, get_or, Option, Some, None, Result, Ok, Err, refl, sym, ap, ◌∙◌, append_assoc, arith}
-use Rattle.std.proofs.lemmas.List.{append-nil}
+use Rattle.std.proofs.Common.{◌≡◌, ℕ, zero, suc, ◌+◌, ◌<◌, ◌≤◌, List, [], ◌∷◌, ◌++◌, length, drop, get_or, Option, Some, None, Result, Ok, Err, refl, sym, ap, arith}
 use Rattle.lf_sorted.specs.declared.map.Entry.{Entry}
 use Rattle.lf_model.specs.declared.json.Json.{Json}
 use Rattle.lf_model.specs.declared.error.LdError.{LdError}

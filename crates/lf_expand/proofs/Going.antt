@@ -1,5 +1,5 @@
 -- Members that are read one by one.
-use Rattle.std.proofs.Common.{◌≡◌, ℕ, List, length, Result, Ok, refl, sym, ap, subst, ◌∙◌}
+use Rattle.std.proofs.Common.{◌≡◌, List, length, Result, Ok, sym, ap, subst, ◌∙◌}
 use Rattle.lf_model.specs.declared.error.LdError.{LdError}
 use Rattle.lf_model.specs.JsonData.{JsonMembers}
 use Rattle.lf_expand.specs.declared.error.FrameErr.{FrameErr}

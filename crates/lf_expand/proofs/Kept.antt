@@ -1,7 +1,7 @@
 -- The keys that are kept, gathered one by one, say what the definition says of them all.
 use Rattle.std.proofs.Common.{◌≡◌, Bool, true, false, not, ◌&&◌, ◌||◌, cond, List, [], ◌∷◌, codes, refl, sym, ap, ◌∙◌}
 use Rattle.lf_expand.specs.declared.class.Kept.{Kept}
-use Rattle.def_contexts.specs.FrameKeys.{Meaning, dropped, keyword, property, reverse_property, is_the_keyword, keep, is_set_only, has_keyword, class_of_kept, MapClass, value_map, list_map, set_map, node_map}
+use Rattle.def_contexts.specs.FrameKeys.{Meaning, dropped, keyword, property, reverse_property, is_the_keyword, keep, is_set_only, has_keyword, class_of_kept, value_map, list_map, set_map, node_map}
 use Rattle.lf_expand.specs.KeptKeys.{is_kept, nothing_kept, with_key, kept_keys, is_alone, class_by}
 
 pub kept_more : (keys : Kept) (m : Meaning) (b : Bool) (rest : List Meaning) → is_kept m b ≡ true → kept_keys keys (keep m b rest) ≡ kept_keys (with_key keys m) rest

@@ -2,7 +2,7 @@
 use Rattle.std.proofs.Common.{◌≡◌, ℕ, nat_eq, Bool, true, false, not, ◌&&◌, List, [], ◌∷◌, ◌++◌, IsUtf8, encode_utf8, refl, sym, ap, ◌∙◌, length, arith}
 use Rattle.std.specs.List.{list_all}
 use Rattle.std.specs.Str.{chars}
-use Rattle.std.proofs.lemmas.Str.{IsUtf8-past_char, chars_past_char}
+use Rattle.std.proofs.lemmas.Str.{chars_past_char}
 use Rattle.def_patch_texts.specs.Characters.{is_label_char, ends_well, is_label}
 use Rattle.lf_expand.specs.LabelTest.{is_fit}
 

@@ -1,5 +1,5 @@
 -- Each map of a frame names maps behind it, and the top map is the first.
-use Rattle.std.proofs.Common.{◌≡◌, ℕ, zero, suc, ◌+◌, ◌-◌, ◌<◌, ◌≤◌, Bool, List, [], ◌∷◌, ◌++◌, length, map, reverse, slice_get, Option, Some, None, Result, Ok, Err, refl, sym, ap, subst, ◌∙◌, arith}
+use Rattle.std.proofs.Common.{◌≡◌, ℕ, zero, suc, ◌+◌, ◌-◌, ◌<◌, List, [], ◌∷◌, ◌++◌, length, map, reverse, slice_get, Option, Some, None, Result, Ok, sym, ap, subst, ◌∙◌, arith}
 use Rattle.std.proofs.lemmas.List.{length-reverse, length-append}
 use Rattle.std.proofs.lemmas.Option.{none-some, same_Some}
 use Rattle.std.proofs.lemmas.List.{length-map}
@@ -27,7 +27,7 @@ use Rattle.def_contexts.specs.SubFrames.{read_members, top_frame}
 use Rattle.lf_expand.specs.Gives.{Fails}
 use Rattle.lf_expand.specs.RowData.{built, IsBelow, PropsWithin, ReversesWithin, KindWithin, RowWithin, DescendsFrom, Descends}
 use Rattle.lf_expand.specs.ReadingData.{reading_of, row_of, IsRead}
-use Rattle.lf_expand.specs.Numbers.{turned_prop, turned_reverse, turned_props, turned_reverses, turned_kind, turned_row, IsLater, KindIsLater, NamesLater, NamesLargerNumbers}
+use Rattle.lf_expand.specs.Numbers.{turned_props, turned_reverses, turned_kind, turned_row, IsLater, KindIsLater, NamesLater, NamesLargerNumbers}
 use Rattle.lf_expand.proofs.RowLemmas.{built_last, keeps_push}
 use Rattle.lf_expand.proofs.ReadingLemmas.{fails_then, row_seen}
 use Rattle.lf_expand.proofs.Steps.{row_within}

@@ -1,10 +1,8 @@
 -- Each step of reading a map's keys, between what a program has read and what the definitions have.
-use Rattle.std.proofs.Common.{◌≡◌, ℕ, ◌<◌, ◌≤◌, Bool, true, false, ◌||◌, List, [], ◌∷◌, length, Option, Some, None, Result, Ok, Err, refl, sym, ap, subst, ◌∙◌, arith}
+use Rattle.std.proofs.Common.{◌≡◌, ℕ, ◌<◌, ◌≤◌, Bool, true, false, ◌||◌, List, [], ◌∷◌, length, Option, Some, None, Result, Ok, Err, refl, sym, ap, subst, ◌∙◌}
 use Rattle.std.specs.Option.{option_map}
 use Rattle.lf_sorted.specs.declared.map.Entry.{Entry}
-use Rattle.lf_sorted.specs.Entries.{put_entry}
 use Rattle.lf_rdf.specs.Equality.{text_eq}
-use Rattle.lf_model.specs.declared.table.TermTable.{TermTable}
 use Rattle.lf_model.specs.declared.table.TermDef.{TermDef}
 use Rattle.lf_model.specs.declared.error.LdError.{LdError}
 use Rattle.lf_model.specs.declared.error.LdError.TheVariants as ld
@@ -16,11 +14,11 @@ use Rattle.lf_expand.specs.declared.found.Found.{Found}
 use Rattle.lf_expand.specs.declared.found.Found.TheVariants as found
 use Rattle.lf_expand.specs.declared.reading.Reading as program
 use Rattle.lf_expand.specs.declared.rows.Row.{Row}
-use Rattle.def_nested.specs.Nested.{Nested, Props, Reverses, Within, prop, reverse_prop, in_graph, match_none, frame_map}
+use Rattle.def_nested.specs.Nested.{prop, reverse_prop, in_graph, match_none, frame_map}
 use Rattle.def_nested.specs.Unfolding.{Numbered, build_within, build_kind, sub_frame}
 use Rattle.def_contexts.specs.Outcomes.{◌>>=◌, refuse}
 use Rattle.def_contexts.specs.Keywords.{one_of}
-use Rattle.def_contexts.specs.Places.{Place, of_property, of_reverse, of_graph, of_item, takes_maps_alone}
+use Rattle.def_contexts.specs.Places.{of_property, of_reverse}
 use Rattle.def_contexts.specs.MapReading.{read_property, read_reverse}
 use Rattle.def_contexts.specs.Readings.{Reading, Reader, with_property, with_reverse, within_found, item_found, frame_read, kind_of}
 use Rattle.lf_expand.specs.Gives.{Fails}

@@ -1,13 +1,12 @@
 -- Maps put behind others: numbers that were given keep what they stand for.
-use Rattle.std.proofs.Common.{◌≡◌, ◌≢◌, ℕ, zero, suc, ◌+◌, ◌<◌, ◌≤◌, nat_eq, Bool, true, false, ◌&&◌, List, [], ◌∷◌, ◌++◌, length, reverse, Option, Some, None, refl, sym, ap, subst, ◌∙◌, arith, eq-eqb, ne_eqb}
+use Rattle.std.proofs.Common.{◌≡◌, ◌≢◌, ℕ, ◌<◌, true, false, ◌&&◌, List, [], ◌∷◌, ◌++◌, length, reverse, Some, None, refl, sym, ap, subst, ◌∙◌, arith, eq-eqb, ne_eqb}
 use Rattle.std.proofs.lemmas.List.{reverse-append, length-reverse, length-append}
-use Rattle.lf_model.specs.declared.table.TermDef.{TermDef}
 use Rattle.lf_model.specs.declared.table.Container.{Container}
 use Rattle.lf_model.specs.declared.table.Container.TheVariants as container
 use Rattle.lf_model.specs.declared.frame.FrameKind.{FrameKind}
 use Rattle.lf_model.specs.declared.frame.FrameKind.TheVariants as frame_kind
 use Rattle.lf_expand.specs.declared.rows.Row.{Row}
-use Rattle.def_nested.specs.Nested.{Nested, frame_map, wildcard, plain}
+use Rattle.def_nested.specs.Nested.{Nested, wildcard, plain}
 use Rattle.def_nested.specs.Unfolding.{Numbered, build_kind}
 use Rattle.def_contexts.specs.Places.{Place, of_property, of_item, of_graph, of_reverse, of_top, placed, in_container, list_holding, list_unless_list}
 use Rattle.lf_expand.specs.PlaceData.{is_listed, is_list_container}

@@ -1,14 +1,14 @@
 -- Which keys were put into maps of keys, and what a put does to properties.
-use Rattle.std.proofs.Common.{◌≡◌, ◌≢◌, ℕ, ◌<◌, ◌≤◌, Bool, true, false, ◌||◌, true≢false, List, [], ◌∷◌, Option, Some, None, is_some, refl, sym, ap, subst, ◌∙◌, arith}
+use Rattle.std.proofs.Common.{◌≡◌, ℕ, ◌<◌, ◌≤◌, Bool, true, false, ◌||◌, true≢false, List, [], ◌∷◌, Option, Some, None, is_some, refl, sym, ap, subst, ◌∙◌, arith}
 use Rattle.std.specs.Cmp.Lexicographic.{bytes_decides}
 use Rattle.std.specs.declared.cmp.Ordering.{Ordering}
 use Rattle.std.specs.declared.cmp.Ordering.TheVariants.{Less, Equal, Greater}
 use Rattle.std.specs.Ordering.{match_ordering}
 use Rattle.lf_sorted.specs.declared.map.Entry.{Entry}
-use Rattle.lf_sorted.specs.Entries.{text_cmp, entry, put_entry, value_at}
+use Rattle.lf_sorted.specs.Entries.{text_cmp, entry, put_entry}
 use Rattle.lf_sorted.proofs.EntriesLemmas.{value_put, value_of_others}
 use Rattle.lf_rdf.specs.Equality.{text_eq}
-use Rattle.def_nested.specs.Nested.{Nested, Props, Reverses, prop, reverse_prop}
+use Rattle.def_nested.specs.Nested.{prop, reverse_prop}
 use Rattle.def_nested.specs.Unfolding.{Numbered, sub_frame}
 use Rattle.def_contexts.specs.Readings.{put_prop, put_reverse}
 use Rattle.lf_expand.specs.RowData.{seen_props, seen_reverses, IsBelow, PropsWithin, ReversesWithin}

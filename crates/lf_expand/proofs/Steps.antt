@@ -1,41 +1,39 @@
 -- The steps of reading keys that hold sub-frames, between what a program has read and what the definitions have.
 use Rattle.std.proofs.Common.{◌≡◌, ℕ, ◌<◌, nat_eq, Bool, true, false, List, [], ◌∷◌, length, reverse, Option, Some, None, Result, Ok, Err, refl, sym, ap, subst, ◌∙◌, arith}
 use Rattle.std.proofs.lemmas.List.{length-reverse}
-use Rattle.std.proofs.lemmas.Bool.{eqb-true, eqb-false}
+use Rattle.std.proofs.lemmas.Bool.{eqb-false}
 use Rattle.std.specs.Option.{option_map}
 use Rattle.lf_model.specs.declared.table.TermTable.{TermTable}
 use Rattle.lf_model.specs.declared.table.TermDef.{TermDef}
 use Rattle.lf_model.specs.declared.error.LdError.{LdError}
 use Rattle.lf_model.specs.declared.error.LdError.TheVariants as ld
-use Rattle.lf_model.specs.JsonData.{JsonValue, JsonMembers}
+use Rattle.lf_model.specs.JsonData.{JsonValue}
 use Rattle.lf_expand.specs.declared.error.FrameErr.{FrameErr}
-use Rattle.lf_expand.specs.declared.error.FrameErr.TheVariants as err
 use Rattle.lf_expand.specs.declared.class.MapClass.{MapClass}
 use Rattle.lf_expand.specs.declared.class.MapClass.TheVariants as class
 use Rattle.lf_expand.specs.declared.keys.FrameKey as program_key
 use Rattle.lf_expand.specs.declared.keys.FrameKey.TheVariants as key
-use Rattle.lf_expand.specs.declared.keys.Holding.TheVariants.{GraphFrame, ReverseMap, ItemFrame, NoFrame}
+use Rattle.lf_expand.specs.declared.keys.Holding.TheVariants.{GraphFrame, ReverseMap, ItemFrame}
 use Rattle.lf_expand.specs.declared.found.Found.{Found}
 use Rattle.lf_expand.specs.declared.found.Found.TheVariants as found
 use Rattle.lf_expand.specs.declared.reading.Reading as program
 use Rattle.lf_expand.specs.declared.rows.Row.{Row}
-use Rattle.def_nested.specs.Nested.{Nested, match_none}
-use Rattle.def_nested.specs.Unfolding.{Numbered, build_within}
+use Rattle.def_nested.specs.Unfolding.{Numbered}
 use Rattle.def_contexts.specs.Outcomes.{◌>>=◌, refuse}
 use Rattle.def_contexts.specs.Keywords.{one_of}
 use Rattle.def_contexts.specs.FrameKeys as keys
 use Rattle.def_contexts.specs.FrameKeys.{keyword, frame_key, graph_key, reverse_key, list_key}
-use Rattle.def_contexts.specs.Places.{Place, of_property, of_reverse, of_graph, of_item, takes_maps_alone, term_at, placed, frame_of_given, scalar_under}
+use Rattle.def_contexts.specs.Places.{Place, of_graph, of_item, takes_maps_alone, term_at, placed, frame_of_given, scalar_under}
 use Rattle.def_contexts.specs.GivenValues.{Given, reference, plain_value, given}
 use Rattle.lf_model.specs.declared.scalar.Scalar.{Scalar}
-use Rattle.def_contexts.specs.MapReading.{read_key, read_keyword, read_class_key, read_node_key, read_list_key}
-use Rattle.def_contexts.specs.SubFrames.{map_read, read_members, reverse_members}
+use Rattle.def_contexts.specs.MapReading.{read_key, read_keyword, read_node_key, read_list_key}
+use Rattle.def_contexts.specs.SubFrames.{map_read}
 use Rattle.def_contexts.specs.Readings.{Reading, Reader, ReverseReader, within_found, item_found, frame_read}
 use Rattle.lf_expand.specs.Gives.{Gives, Fails}
 use Rattle.lf_expand.specs.KeptKeys.{class_data}
 use Rattle.lf_expand.specs.KeyData.{key_data, holding}
 use Rattle.lf_expand.specs.RowData.{seen_row, at_row, from_last, built, RowWithin, Keeps, IsPlaced}
-use Rattle.lf_expand.specs.ReadingData.{Lists, reading_of, Told, found_data, FoundWithin, IsMapWhere, IsFound, IsRead, Reads, Finds, graph_given, item_given, number_of, keyword_added, has_key, unread, given_row, row_of, kind_of, wild_or_node}
+use Rattle.lf_expand.specs.ReadingData.{Lists, reading_of, Told, found_data, FoundWithin, IsMapWhere, IsFound, IsRead, Reads, graph_given, item_given, number_of, keyword_added, has_key, unread, given_row, row_of, kind_of, wild_or_node}
 use Rattle.lf_expand.proofs.RowLemmas.{keeps_all, keeps_both}
 use Rattle.lf_expand.proofs.ReadingLemmas.{fails_then, reading_same, told_more, told_keyword, row_seen}
 

@@ -1,5 +1,5 @@
 -- The members of a frame's map beside its context.
-use Rattle.std.proofs.Common.{◌≡◌, ℕ, Bool, true, false, ◌&&◌, cond, List, [], codes, Option, Some, None, is_some, unwrap_or, Result, Ok, Err, IfOk, IfErr, refl, sym, ap, subst, ◌∙◌}
+use Rattle.std.proofs.Common.{◌≡◌, ℕ, Bool, true, false, ◌&&◌, cond, List, codes, Option, Some, None, is_some, unwrap_or, Result, Ok, Err, IfOk, IfErr, refl, sym, ap, subst, ◌∙◌}
 use Rattle.lf_model.specs.declared.error.LdError.{LdError}
 use Rattle.lf_model.specs.declared.frame.Frame.{Frame}
 use Rattle.def_nested.specs.Nested.{Nested}

@@ -1,21 +1,18 @@
 -- The maps in their last order stand for what they stood for while the frame was read.
-use Rattle.std.proofs.Common.{◌≡◌, ◌≢◌, ℕ, zero, suc, ◌+◌, ◌-◌, ◌<◌, ◌≤◌, nat_eq, nat_lt, Bool, true, false, List, [], ◌∷◌, ◌++◌, length, map, reverse, slice_get, Option, Some, None, refl, sym, ap, subst, ◌∙◌, arith, eq-eqb, ne_eqb, lt-ltb}
+use Rattle.std.proofs.Common.{◌≡◌, ◌≢◌, ℕ, suc, ◌+◌, ◌-◌, ◌<◌, nat_eq, Bool, true, false, List, [], ◌∷◌, length, map, reverse, Option, Some, None, refl, sym, ap, ◌∙◌, arith, eq-eqb, ne_eqb, lt-ltb}
 use Rattle.std.proofs.lemmas.List.{length-reverse}
 use Rattle.std.proofs.lemmas.Bool.{eqb-true, eqb-false}
-use Rattle.std.proofs.lemmas.Option.{none-some, same_Some}
-use Rattle.std.proofs.Math.ListN.{length-map}
 use Rattle.std.specs.Option.{option_map}
-use Rattle.std.specs.List.{AllByRecursion}
 use Rattle.lf_sorted.specs.declared.map.Entry.{Entry}
 use Rattle.lf_model.specs.declared.frame.FrameNode.{FrameNode}
 use Rattle.lf_model.specs.declared.frame.FrameKind.{FrameKind}
 use Rattle.lf_model.specs.declared.frame.FrameKind.TheVariants as frame_kind
 use Rattle.lf_expand.specs.declared.rows.Row.{Row}
-use Rattle.def_nested.specs.Nested.{Nested, frame_map, match_none, prop, reverse_prop, in_graph, list_pattern_of}
+use Rattle.def_nested.specs.Nested.{frame_map, prop, reverse_prop, in_graph, list_pattern_of}
 use Rattle.def_nested.specs.Unfolding.{Numbered, sub_frame, build, build_props, build_reverses, build_within, build_kind, guarded, above, unfold_from, nested}
 use Rattle.def_nested.proofs.Unfolded.{unfold_built, unfold_later}
 use Rattle.lf_expand.specs.RowData.{flags_data, seen_props, seen_reverses, seen_row, at_row, from_last, built, IsBelow, PropsWithin, ReversesWithin, KindWithin, RowWithin, DescendsFrom, Descends}
-use Rattle.lf_expand.specs.Numbers.{turned_prop, turned_props, turned_reverses, turned_kind, turned_row, IsLater, KindIsLater, NamesLater, NamesLargerNumbers}
+use Rattle.lf_expand.specs.Numbers.{turned_props, turned_reverses, turned_kind, turned_row}
 
 -- numbers below a bound, counted from the last one, stand for what they stood for
 abbrev Turns : ℕ → ℕ → Numbered → Numbered → Type 0

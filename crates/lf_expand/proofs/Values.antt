@@ -1,5 +1,5 @@
 -- What is known of a value by its variant.
-use Rattle.std.proofs.Common.{◌≡◌, ℕ, nat_eq, Bool, true, false, List, [], ◌∷◌, Option, Some, None, ap, ◌∙◌, refl, cond, sym}
+use Rattle.std.proofs.Common.{◌≡◌, ℕ, nat_eq, Bool, true, false, List, [], ◌∷◌, Option, Some, ap, ◌∙◌, refl, cond}
 use Rattle.std.specs.Option.{option_map}
 use Rattle.std.specs.Cmp.Lexicographic.{pointwise}
 use Rattle.lf_sorted.specs.Entries.{value_at}
@@ -11,7 +11,7 @@ use Rattle.lf_model.specs.declared.json.Json.TheVariants as j
 use Rattle.lf_model.specs.JsonData.{JsonValue, JsonMembers, object, array}
 use Rattle.lf_model.specs.JsonBridge.{json_data, items_data, members_data}
 use Rattle.lf_model.proofs.JsonLemmas.{json_data-Map, json_data-List}
-use Rattle.def_contexts.specs.NodeTests.{is_any, is_never, type_test_of, types_given}
+use Rattle.def_contexts.specs.NodeTests.{is_any, type_test_of, types_given}
 
 pub map_value : (value : Json) (members : List (Entry Json)) → value ≡ j.Map members → json_data value ≡ object (members_data members)
 map_value value members is = ap json_data is ∙ json_data-Map members

@@ -1,5 +1,5 @@
 -- What the keys of a map that are kept say of the map, key by key.
-use Rattle.std.specs.Prelude.{List, [], ◌∷◌, Bool, true, false, not, ◌&&◌, ◌||◌, cond, if◌then◌else◌, codes}
+use Rattle.std.specs.Prelude.{List, [], ◌∷◌, Bool, true, false, not, ◌&&◌, ◌||◌, if◌then◌else◌, codes}
 use Rattle.lf_expand.specs.declared.class.MapClass as program
 use Rattle.lf_expand.specs.declared.class.MapClass.TheVariants as class
 use Rattle.lf_expand.specs.declared.class.Kept.{Kept}

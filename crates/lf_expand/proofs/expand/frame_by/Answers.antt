@@ -1,7 +1,5 @@
-use Rattle.std.proofs.Common.{◌≡◌, codes, unwrap_or, sym, ap, subst, ◌∙◌}
-use Rattle.lf_model.specs.JsonData.{null}
+use Rattle.std.proofs.Common.{codes, sym, subst}
 use Rattle.lf_model.specs.JsonBridge.{json_data, members_data}
-use Rattle.def_contexts.specs.Members.{value_of}
 use Rattle.def_contexts.specs.Frames.{without_key, frame_by}
 use Rattle.def_contexts.specs.FrameValues.{frame_meaning}
 use Rattle.lf_expand.specs.Gives.{Gives, Fails}

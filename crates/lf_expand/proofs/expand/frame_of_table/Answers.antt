@@ -1,6 +1,5 @@
-use Rattle.lf_expand.proofs.ReadingLemmas.{fails_then}
 use Rattle.lf_model.specs.JsonBridge.{json_data, members_data}
-use Rattle.std.proofs.Common.{codes, Ok, ap, ◌∙◌}
+use Rattle.std.proofs.Common.{codes}
 use Rattle.def_contexts.specs.Frames.{without_key}
 use Rattle.lf_expand.proofs.Tops.{framed_made, framed_fails}
 use Rattle.lf_expand.proofs.expand.frame_of_table.Goals as goal

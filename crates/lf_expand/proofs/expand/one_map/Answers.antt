@@ -1,4 +1,4 @@
-use Rattle.std.proofs.Common.{◌≡◌, List, [], ◌∷◌, Bor, Ok, sym, ap, subst, ◌∙◌, arith}
+use Rattle.std.proofs.Common.{List, Bor, Ok, sym, ap, subst, ◌∙◌, arith}
 use Rattle.lf_sorted.specs.declared.map.Entry.{Entry}
 use Rattle.lf_model.specs.declared.json.Json.{Json}
 use Rattle.lf_model.specs.JsonData.{array}

@@ -1,4 +1,4 @@
-use Rattle.std.proofs.Common.{◌≡◌, ◌+◌, ◌&&◌, true, false, drop, codes, sym, ap, subst, ◌∙◌}
+use Rattle.std.proofs.Common.{◌≡◌, ◌+◌, ◌&&◌, true, false, drop, codes, ap, subst}
 use Rattle.lf_rdf.specs.Equality.{text_eq}
 use Rattle.lf_model.specs.JsonBridge.{json_data, members_data}
 use Rattle.def_contexts.specs.FrameKeys.{meaning_of, node_map}

@@ -1,4 +1,4 @@
-use Rattle.std.proofs.Common.{◌≡◌, List, [], length, subst}
+use Rattle.std.proofs.Common.{[], length, subst}
 use Rattle.lf_model.specs.JsonBridge.{members_data}
 use Rattle.def_contexts.specs.FrameKeys.{node_map}
 use Rattle.def_contexts.specs.Places.{of_top}

@@ -1,13 +1,9 @@
-use Rattle.std.proofs.Common.{◌≡◌, ◌+◌, Bool, true, false, ◌||◌, length, drop, codes, Option, Some, None, Ok, Err, refl, sym, ap, subst, ◌∙◌, rules}
+use Rattle.std.proofs.Common.{◌≡◌, ◌+◌, true, false, ◌||◌, length, drop, codes, sym, ap, subst, ◌∙◌, rules}
 use Rattle.std.specs.Option.{option_copied}
-use Rattle.lf_sorted.specs.declared.map.Entry.{Entry}
-use Rattle.lf_model.specs.declared.json.Json.{Json}
-use Rattle.lf_model.specs.JsonData.{JsonMembers}
 use Rattle.lf_model.specs.JsonBridge.{json_data, members_data}
 use Rattle.def_contexts.specs.FrameKeys.{meaning_of, is_the_keyword, keyword, property, reverse_property, node_map, list_key}
-use Rattle.def_contexts.specs.Places.{of_property, of_reverse, of_graph, of_item}
+use Rattle.def_contexts.specs.Places.{of_reverse}
 use Rattle.def_contexts.specs.MapReading.{read_key, read_keyword, read_list_key, read_property, read_reverse, read_reverse_key}
-use Rattle.def_contexts.specs.Readings.{Reading}
 use Rattle.def_contexts.specs.SubFrames.{sub_frame, read_members, set_value, set_or, reverse_map, reverse_members}
 use Rattle.lf_expand.specs.Gives.{Fails}
 use Rattle.lf_expand.specs.KeptKeys.{class_data}
@@ -16,7 +12,7 @@ use Rattle.def_contexts.specs.FrameKeys as keys
 use Rattle.lf_expand.specs.PlaceData.{place_data}
 use Rattle.lf_expand.specs.RowData.{built, seen_row, RowWithin, IsPlaced}
 use Rattle.def_contexts.specs.Places.{placed}
-use Rattle.lf_expand.specs.ReadingData.{Lists, Told, reading_of, Finds, Reads, IsFound, IsRead, has_key, keyword_added, property_given, reverse_given, graph_given, item_given, row_of, unread}
+use Rattle.lf_expand.specs.ReadingData.{Told, reading_of, Finds, Reads, IsFound, IsRead, has_key, keyword_added, property_given, reverse_given, graph_given, unread}
 use Rattle.lf_expand.proofs.Gathered.{members_at, members_end}
 use Rattle.lf_expand.proofs.Values.{map_value}
 use Rattle.lf_expand.proofs.Going.{Members, goes_on, goes_wrong, ends}

@@ -3,8 +3,7 @@ use Rattle.lf_model.specs.JsonBridge.{members_data}
 use Rattle.def_contexts.specs.SubFrames.{set_value, read_members, reverse_members}
 use Rattle.lf_expand.specs.KeptKeys.{class_data}
 use Rattle.lf_expand.specs.PlaceData.{place_data}
-use Rattle.lf_expand.specs.RowData.{built, Keeps}
-use Rattle.lf_expand.specs.ReadingData.{Lists, Told, reading_of}
+use Rattle.lf_expand.specs.ReadingData.{Lists, Told}
 use Rattle.lf_expand.proofs.Going.{GoesOn}
 use Rattle.lf_expand.proofs.maps.+frames.Given as goal
 

@@ -1,4 +1,4 @@
-use Rattle.std.proofs.Common.{◌≡◌, ◌&&◌, true, false, rules}
+use Rattle.std.proofs.Common.{◌≡◌, ◌&&◌, true, false}
 use Rattle.lf_expand.specs.PlaceData.{place_data, is_listed}
 use Rattle.lf_expand.specs.RowData.{needs_list}
 use Rattle.lf_expand.proofs.RowLemmas.{placed_once, placed_twice}

@@ -14,14 +14,8 @@ use Rattle.lf_session.specs.declared.request.Asked.TheVariants as asked
 use Rattle.lf_session.specs.Bodies.{error_body}
 use Rattle.lf_session.specs.Replies.{Reply, plain}
 
--- the methods that a target has (RFC 9110, section 10.2.1)
-abbrev pub allowed : Target → Allow
-allowed target.FrameAt = allow.GetPutDelete
-allowed target.PatchAt = allow.Post
-allowed target.VersionAt = allow.Get
-allowed target.NoTarget = allow.NoAllow
-
--- what the method asks for at the target; `now` asks for the newest version
+-- what the method asks for at the target (RFC 9110, section 10.2.1, for the methods that it has); `now` asks for the newest
+-- version
 abbrev pub at_frame : Method → Bool → Asked
 at_frame method.Get now = if now then asked.GetNow else asked.Get
 at_frame method.Put now = asked.Put

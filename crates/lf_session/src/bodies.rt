@@ -1,49 +1,26 @@
 //! Bodies of replies that take no memory, as JSON texts in compact form (RFC 8259).
 ghost use Rattle.std.specs.Prelude.{◌≡◌, ◌+◌, ◌≤◌, ◌++◌, [], length, codes, decimal};
+ghost use Rattle.lf_http.specs.ShortText.{short_room, number_room};
 ghost use Rattle.lf_session.specs.Bodies.{error_body, frame_body, version_body, number_or_null, pending_body, bad_line_body, frame_too_long_body, too_many_body, history_full_body, limit_body};
 
-use arrayvec::ArrayVec;
 use def_patch_texts::LineKind;
-use itoa::Buffer;
+use lf_http::{ShortText, put, put_number};
 use lf_model::{Counted, Limit};
 use lf_names::{counted_name, kind_name, limit_name, limit_number};
 
-/// The bytes of a short body.
-pub type ShortBody = ArrayVec<u8, 320>;
-
-// Appends a text that has room.
-fn put(body: &mut ShortBody, text: &[u8])
-    requires { length body.old.items + length text.now ≤ 320 }
-    ensures items { body.new.items ≡ body.old.items ++ text.now }
-    ensures len { length body.new.items ≡ length body.old.items + length text.now }
-{
-    for byte in text {
-        body.push(*byte);
-    }
-}
-
-// Appends a number in decimal.
-fn put_number(body: &mut ShortBody, number: u64)
-    requires { length body.old.items ≤ 300 }
-    ensures items { body.new.items ≡ body.old.items ++ decimal number }
-    ensures len { length body.new.items ≤ length body.old.items + 20 }
-{
-    put(body, Buffer::new().format(number).as_bytes());
-}
-
 // Begins a body with a text.
-fn begin(text: &[u8]) -> ShortBody
-    requires { length text.now ≤ 320 }
+fn begin(text: &[u8]) -> ShortText
+    requires { length text.now ≤ short_room }
     ensures { result.items ≡ text.now }
 {
-    let mut body = ShortBody::new();
+    let mut body = ShortText::new();
     put(&mut body, text);
     body
 }
 
 /// An error without more.
 #[tactic(auto, unfolding(crate::specs::Bodies::error_body))]
-pub fn error_body(text: &[u8]) -> ShortBody
+pub fn error_body(text: &[u8]) -> ShortText
     requires { length text.now ≤ 64 }
     ensures { result.items ≡ error_body text.now }
 {
@@ -55,7 +32,7 @@ pub fn error_body(text: &[u8]) -> ShortBody
 
 /// A frame's name.
 #[tactic(auto, unfolding(crate::specs::Bodies::frame_body))]
-pub fn frame_body(name: &[u8]) -> ShortBody
+pub fn frame_body(name: &[u8]) -> ShortText
     requires { length name.now ≤ 64 }
     ensures { result.items ≡ frame_body name.now }
 {
@@ -67,7 +44,7 @@ pub fn frame_body(name: &[u8]) -> ShortBody
 
 /// A version.
 #[tactic(auto, unfolding(crate::specs::Bodies::version_body))]
-pub fn version_body(version: u64) -> ShortBody
+pub fn version_body(version: u64) -> ShortText
     ensures { result.items ≡ version_body version }
 {
     let mut body = begin(b"{\"version\":");
@@ -77,10 +54,10 @@ pub fn version_body(version: u64) -> ShortBody
 }
 
 // Appends a number, or null.
-fn put_number_or_null(body: &mut ShortBody, number: Option<u64>)
-    requires { length body.old.items ≤ 300 }
+fn put_number_or_null(body: &mut ShortText, number: Option<u64>)
+    requires { length body.old.items + number_room ≤ short_room }
     ensures items { body.new.items ≡ body.old.items ++ number_or_null number }
-    ensures len { length body.new.items ≤ length body.old.items + 20 }
+    ensures len { length body.new.items ≤ length body.old.items + number_room }
 {
     match number {
         Some(number) => put_number(body, number),
@@ -90,7 +67,7 @@ fn put_number_or_null(body: &mut ShortBody, number: Option<u64>)
 
 /// What is published and what is needed.
 #[tactic(auto, unfolding(crate::specs::Bodies::pending_body))]
-pub fn pending_body(have: Option<u64>, need: u64) -> ShortBody
+pub fn pending_body(have: Option<u64>, need: u64) -> ShortText
     ensures { result.items ≡ pending_body have need }
 {
     let mut body = begin(b"{\"have\":");
@@ -103,7 +80,7 @@ pub fn pending_body(have: Option<u64>, need: u64) -> ShortBody
 
 /// The first bad line of a patch text, by its number.
 #[tactic(auto, unfolding(crate::specs::Bodies::bad_line_body))]
-pub fn bad_line_body(kind: LineKind, line: u64) -> ShortBody
+pub fn bad_line_body(kind: LineKind, line: u64) -> ShortText
     ensures { result.items ≡ bad_line_body kind line }
 {
     let mut body = begin(b"{\"error\":\"");
@@ -116,7 +93,7 @@ pub fn bad_line_body(kind: LineKind, line: u64) -> ShortBody
 
 /// A frame's text is too long.
 #[tactic(auto, unfolding(crate::specs::Bodies::frame_too_long_body))]
-pub fn frame_too_long_body(size: u64) -> ShortBody
+pub fn frame_too_long_body(size: u64) -> ShortText
     ensures { result.items ≡ frame_too_long_body size }
 {
     let mut body = begin(b"{\"error\":\"frame too long\",\"length\":");
@@ -127,7 +104,7 @@ pub fn frame_too_long_body(size: u64) -> ShortBody
 
 /// Something would be more than may be.
 #[tactic(auto, unfolding(crate::specs::Bodies::too_many_body))]
-pub fn too_many_body(what: &[u8], have: u64, would: u64) -> ShortBody
+pub fn too_many_body(what: &[u8], have: u64, would: u64) -> ShortText
     requires { length what.now ≤ 20 }
     ensures { result.items ≡ too_many_body what.now have would }
 {
@@ -143,7 +120,7 @@ pub fn too_many_body(what: &[u8], have: u64, would: u64) -> ShortBody
 
 /// A limit of the history is met.
 #[tactic(auto, unfolding(crate::specs::Bodies::history_full_body))]
-pub fn history_full_body(of: Counted, have: u64, most: u64) -> ShortBody
+pub fn history_full_body(of: Counted, have: u64, most: u64) -> ShortText
     ensures { result.items ≡ history_full_body of have most }
 {
     let mut body = begin(b"{\"error\":\"history full\",\"have\":");
@@ -158,7 +135,7 @@ pub fn history_full_body(of: Counted, have: u64, most: u64) -> ShortBody
 
 /// A document passes a limit.
 #[tactic(auto, unfolding(crate::specs::Bodies::limit_body))]
-pub fn limit_body(limit: Limit) -> ShortBody
+pub fn limit_body(limit: Limit) -> ShortText
     ensures { result.items ≡ limit_body limit }
 {
     let mut body = begin(b"{\"error\":\"document limit\",\"limit\":\"");

@@ -11,14 +11,14 @@ ghost use Rattle.lf_session.specs.Shown.{shown, body_of};
 ghost use Rattle.lf_session.specs.declared.request.Refusal.TheVariants as refused;
 
 use crate::bodies::{
-    ShortBody, bad_line_body, error_body, history_full_body, limit_body, pending_body,
-    too_many_body, version_body,
+    bad_line_body, error_body, history_full_body, limit_body, pending_body, too_many_body,
+    version_body,
 };
 use crate::request::Refusal;
 use def_patch_texts::LineKind;
 use lf_base::{Memory, Text};
 use lf_desk::CommitErr;
-use lf_http::{Allow, HeadErr};
+use lf_http::{Allow, HeadErr, ShortText};
 use lf_model::{Counted, Doc, FramedNow, LdError, Limit, Look};
 use std::sync::Arc;
 
@@ -26,7 +26,7 @@ use std::sync::Arc;
 #[derive(Drop)]
 pub enum Body {
     /// A text that takes no memory.
-    Short(ShortBody),
+    Short(ShortText),
     Long(Text),
     /// The text of a document that is shared.
     Document(Arc<Doc>),
@@ -62,7 +62,7 @@ impl Body {
 }
 
 /// A JSON text that speaks of no version.
-pub fn plain(status: u16, body: ShortBody) -> Reply
+pub fn plain(status: u16, body: ShortText) -> Reply
     requires { IsTrue (is_named status) }
     ensures shown { shown result ≡ plain status body.items }
     ensures named { IsTrue (is_named result.status) }
@@ -77,7 +77,7 @@ pub fn plain(status: u16, body: ShortBody) -> Reply
 }
 
 // A JSON text that speaks of a version.
-fn versioned(status: u16, version: u64, body: ShortBody) -> Reply
+fn versioned(status: u16, version: u64, body: ShortText) -> Reply
     requires { IsTrue (is_named status) }
     ensures shown { shown result ≡ versioned status version body.items }
     ensures named { IsTrue (is_named result.status) }
@@ -119,7 +119,7 @@ pub fn version_reply(version: u64) -> Reply
 }
 
 // What a frame's error is called.
-fn ld_error_body(error: LdError) -> ShortBody
+fn ld_error_body(error: LdError) -> ShortText
     ensures { result.items ≡ error_body (name_of error) }
 {
     error_body(error.name().as_bytes())

@@ -1,7 +1,7 @@
 -- The answer to each question, from a scan of one order.
-use Rattle.std.proofs.Common.{◌≡◌, refl, sym, ◌∙◌, ap, ℕ, List, [], ◌∷◌, ◌++◌, Bool, true, false, ◌&&◌, ◌||◌, cond, Option, Some, None, Ordering, Less, Equal, Greater, filter, flat_map, arith}
+use Rattle.std.proofs.Common.{◌≡◌, refl, sym, ◌∙◌, ap, ℕ, List, [], ◌∷◌, ◌++◌, Bool, true, false, not, ◌&&◌, ◌||◌, cond, Option, Some, None, Ordering, Less, Equal, Greater, filter, flat_map, arith}
 use Rattle.std.specs.List.{take_while, list_any}
-use Rattle.std.specs.Ordering.{is_eq, is_lt, ordering_then, nat_cmp, then_cmp}
+use Rattle.std.specs.Ordering.{is_eq, is_lt, ordering_then, nat_cmp, bool_cmp, then_cmp}
 use Rattle.std.proofs.lemmas.Bool.{true≢false, false≢true, le-ltb}
 use Rattle.std.proofs.lemmas.Cmp.{then_total}
 use Rattle.std.proofs.lemmas.List.Sums.{take_while-cons}
@@ -13,10 +13,11 @@ use Rattle.lf_rdf.specs.declared.question.GraphRef.TheVariants as graph
 use Rattle.lf_rdf.specs.declared.question.Question.{Question}
 use Rattle.lf_rdf.specs.declared.question.Question.TheVariants as ask
 use Rattle.lf_rdf.specs.Equality.{term_eq, option_eq}
+use Rattle.lf_rdf.specs.Vocabulary.{rdf_type}
 use Rattle.def_datasets.specs.Sorted.{has, set_of}
 use Rattle.def_datasets.specs.Order.{parts_cmp, term_parts, text_cmp, id_cmp}
 use Rattle.def_datasets.specs.Dataset.{holds, dataset_of}
-use Rattle.def_datasets.specs.Terms.{lies_in, label_terms, names}
+use Rattle.def_datasets.specs.Terms.{lies_in, label_terms, names, tells_type}
 use Rattle.def_datasets.specs.Questions.{touches, out, out_any, inward, inward_any, named, members, names_in, nodes_in}
 use Rattle.def_datasets.proofs.Bools.{and_swap, and_true}
 use Rattle.def_datasets.proofs.OrderLaws.{quad_strict, id_strict}
@@ -24,12 +25,12 @@ use Rattle.def_datasets.proofs.QuestionProofs.{any_again}
 use Rattle.lf_oracle.specs.Asking.{is_one_graph}
 use Rattle.lf_ptree.specs.Pairs.{Ascends, keys, pairs_from}
 use Rattle.lf_index.specs.Numbers.{mixed, number_of}
-use Rattle.lf_index.specs.Orders.{term_order, label_order, subjects, predicates, objects, graphs, subject_order, object_order, graph_order}
-use Rattle.lf_index.specs.TotalOrders.{term_equivalence, subjects_total, predicates_total, objects_total, graphs_total, subject_total, object_total, graph_total}
+use Rattle.lf_index.specs.Orders.{term_order, label_order, subjects, predicates, objects, graphs, kinds, subject_order, object_order, graph_order}
+use Rattle.lf_index.specs.TotalOrders.{term_equivalence, subjects_total, predicates_total, objects_total, graphs_total, kinds_total, subject_total, object_total, graph_total}
 use Rattle.lf_index.specs.Low.{least, lowest_subject, lowest_object, lowest_graph}
-use Rattle.lf_index.specs.Reach.{label_in, reaches, answers_to, reached, nodes_reached}
+use Rattle.lf_index.specs.Reach.{label_in, reaches, reached, nodes_reached}
 use Rattle.lf_index.specs.Indexed.{SetOf, names_for}
-use Rattle.lf_index.proofs.OrderLemmas.{then_assoc, term_strictly}
+use Rattle.lf_index.proofs.OrderLemmas.{then_assoc, term_strictly, kinds_tie}
 use Rattle.lf_order.proofs.SetLemmas.{set_alike, set_filter, same_ties, any_alike, has-set_of, or_false}
 use Rattle.lf_index.proofs.ScanLemmas.{IsScan, scanned}
 
@@ -116,43 +117,65 @@ out_any_scan s =
       same = λ x. term_ties x.subject s;
     }
 
-inward_scan : (g : GraphRef) (p o : Term) → is_one_graph g ≡ true → IsScan object_order (then_cmp (then_cmp objects predicates) graphs) subjects (lowest_object o p (label_in g)) (reaches (ask.Inward g p o))
+-- objects, kinds and predicates tie where objects and predicates do
+head_ties : (x y : Quad) → is_eq (ordering_then (ordering_then (objects x y) (kinds x y)) (predicates x y)) ≡ (is_eq (objects x y) && is_eq (predicates x y))
+head_ties x y =
+    is_eq-then (ordering_then (objects x y) (kinds x y)) (predicates x y)
+    ∙ (ap (λ (w : Bool). w && is_eq (predicates x y)) (is_eq-then (objects x y) (kinds x y)) ∙ go (predicates x y) refl)
+  where
+    go : (r : Ordering) → predicates x y ≡ r → ((is_eq (objects x y) && is_eq (kinds x y)) && is_eq r) ≡ (is_eq (objects x y) && is_eq r)
+    go Less e = and_swap (is_eq (objects x y) && is_eq (kinds x y)) false ∙ sym (and_swap (is_eq (objects x y)) false)
+    go Equal e = ap (λ (w : Ordering). (is_eq (objects x y) && is_eq w) && true) (kinds_tie x y e) ∙ and_true (is_eq (objects x y) && true)
+    go Greater e = and_swap (is_eq (objects x y) && is_eq (kinds x y)) false ∙ sym (and_swap (is_eq (objects x y)) false)
+
+inward_scan : (g : GraphRef) (p o : Term) → is_one_graph g ≡ true → IsScan object_order (then_cmp (then_cmp (then_cmp objects kinds) predicates) graphs) subjects (lowest_object o p (label_in g)) (reaches (ask.Inward g p o))
 inward_scan g p o one =
     let low : Quad = lowest_object o p (label_in g) in
     record {
       total = object_total;
-      heads = then_total (then_total objects_total predicates_total) graphs_total;
+      heads = then_total (then_total (then_total objects_total kinds_total) predicates_total) graphs_total;
       split = λ x y. refl;
       least = λ x. least_term x.subject;
       same = λ x. (λ i. graph_ties g x one i && (term_ties x.predicate p i && term_ties x.object o i))
           ∙ (and_swap (is_eq (graphs x low)) (is_eq (predicates x low) && is_eq (objects x low))
-          ∙ (ap (λ (w : Bool). w && is_eq (graphs x low)) (and_swap (is_eq (predicates x low)) (is_eq (objects x low)) ∙ sym (is_eq-then (objects x low) (predicates x low)))
-          ∙ sym (is_eq-then (ordering_then (objects x low) (predicates x low)) (graphs x low))));
+          ∙ (ap (λ (w : Bool). w && is_eq (graphs x low)) (and_swap (is_eq (predicates x low)) (is_eq (objects x low)) ∙ sym (head_ties x low))
+          ∙ sym (is_eq-then (ordering_then (ordering_then (objects x low) (kinds x low)) (predicates x low)) (graphs x low))));
     }
 
-inward_any_scan : (p o : Term) → IsScan object_order (then_cmp objects predicates) (then_cmp graphs subjects) (lowest_object o p None) (reaches (ask.InwardAny p o))
+inward_any_scan : (p o : Term) → IsScan object_order (then_cmp (then_cmp objects kinds) predicates) (then_cmp graphs subjects) (lowest_object o p None) (reaches (ask.InwardAny p o))
 inward_any_scan p o =
     let low : Quad = lowest_object o p None in
     record {
       total = object_total;
-      heads = then_total objects_total predicates_total;
-      split = λ x y. then_assoc (ordering_then (objects x y) (predicates x y)) (graphs x y) (subjects x y);
+      heads = then_total (then_total objects_total kinds_total) predicates_total;
+      split = λ x y. then_assoc (ordering_then (ordering_then (objects x y) (kinds x y)) (predicates x y)) (graphs x y) (subjects x y);
       least = λ x. not_less_then (graphs x low) (subjects x low) (least_label x.graph) (least_term x.subject);
       same = λ x. (λ i. term_ties x.predicate p i && term_ties x.object o i)
-          ∙ (and_swap (is_eq (predicates x low)) (is_eq (objects x low)) ∙ sym (is_eq-then (objects x low) (predicates x low)));
+          ∙ (and_swap (is_eq (predicates x low)) (is_eq (objects x low)) ∙ sym (head_ties x low));
     }
 
-uses_scan : (o : Term) → IsScan object_order objects (then_cmp predicates (then_cmp graphs subjects)) (lowest_object o least None) (reaches (ask.Uses o))
+no_type : (o : Term) → tells_type (lowest_object o least None) ≡ false
+unfolding rdf_type
+no_type o = refl
+
+use_ties : (x : Quad) (o : Term) → not (tells_type x) ≡ is_eq (kinds x (lowest_object o least None))
+use_ties x o = go (tells_type x) ∙ ap (λ (b : Bool). is_eq (bool_cmp (tells_type x) b)) (sym (no_type o))
+  where
+    go : (b : Bool) → not b ≡ is_eq (bool_cmp b false)
+    go true = refl
+    go false = refl
+
+uses_scan : (o : Term) → IsScan object_order (then_cmp objects kinds) (then_cmp predicates (then_cmp graphs subjects)) (lowest_object o least None) (reaches (ask.Uses o))
 uses_scan o =
     let low : Quad = lowest_object o least None in
     record {
       total = object_total;
-      heads = objects_total;
-      split = λ x y. then_assoc (ordering_then (objects x y) (predicates x y)) (graphs x y) (subjects x y)
-          ∙ then_assoc (objects x y) (predicates x y) (ordering_then (graphs x y) (subjects x y));
+      heads = then_total objects_total kinds_total;
+      split = λ x y. then_assoc (ordering_then (ordering_then (objects x y) (kinds x y)) (predicates x y)) (graphs x y) (subjects x y)
+          ∙ then_assoc (ordering_then (objects x y) (kinds x y)) (predicates x y) (ordering_then (graphs x y) (subjects x y));
       least = λ x. not_less_then (predicates x low) (ordering_then (graphs x low) (subjects x low)) (least_term x.predicate)
           (not_less_then (graphs x low) (subjects x low) (least_label x.graph) (least_term x.subject));
-      same = λ x. term_ties x.object o;
+      same = λ x. (λ i. term_ties x.object o i && use_ties x o i) ∙ sym (is_eq-then (objects x low) (kinds x low));
     }
 
 graph_scan : (label : Option Term) (p : Quad → Bool) → ((q : Quad) → p q ≡ is_eq (label_order q.graph label))
@@ -180,35 +203,32 @@ filter_both a p (x ∷ xs) = go (p x) (filter_both a p xs)
     go true ih = ap (λ l. cond (a x) (x ∷ l) l) ih
     go false ih = ih
 
-touched : (question : Question) → ((q : Quad) → (reaches question q && answers_to question q) ≡ touches q question) → (rest quads dataset : List Quad)
+touched : (question : Question) → ((q : Quad) → reaches question q ≡ touches q question) → (rest quads dataset : List Quad)
     → take_while (reaches question) rest ≡ filter (reaches question) quads → dataset_of quads ≡ dataset
     → dataset_of (reached question rest) ≡ filter (λ q. touches q question) dataset
 touched question tests rest quads dataset scan same =
-    ap (λ l. dataset_of (filter (answers_to question) l)) scan
-    ∙ (ap dataset_of (filter_both (answers_to question) (reaches question) quads)
-    ∙ (set_filter quad_strict (λ q. reaches question q && answers_to question q) quads
-    ∙ (λ i. filter (λ q. tests q i) (same i))))
+    ap dataset_of scan ∙ (set_filter quad_strict (reaches question) quads ∙ (λ i. filter (λ q. tests q i) (same i)))
 
 module _ (es : SetOf Quad) (dataset : List Quad) (same : dataset_of (keys es) ≡ dataset) where
   pub out_answered : Ascends subject_order es → (g : GraphRef) (s : Term) → is_one_graph g ≡ true
       → dataset_of (reached (ask.Out g s) (keys (pairs_from subject_order (lowest_subject s (label_in g)) es))) ≡ out dataset g s
   out_answered asc g s one =
-      touched (ask.Out g s) (λ q. and_true (reaches (ask.Out g s) q)) (keys (pairs_from subject_order (lowest_subject s (label_in g)) es)) (keys es) dataset (scanned (out_scan g s one) es asc) same
+      touched (ask.Out g s) (λ q. refl) (keys (pairs_from subject_order (lowest_subject s (label_in g)) es)) (keys es) dataset (scanned (out_scan g s one) es asc) same
 
   pub out_any_answered : Ascends subject_order es → (s : Term)
       → dataset_of (reached (ask.OutAny s) (keys (pairs_from subject_order (lowest_subject s None) es))) ≡ out_any dataset s
   out_any_answered asc s =
-      touched (ask.OutAny s) (λ q. and_true (reaches (ask.OutAny s) q)) (keys (pairs_from subject_order (lowest_subject s None) es)) (keys es) dataset (scanned (out_any_scan s) es asc) same
+      touched (ask.OutAny s) (λ q. refl) (keys (pairs_from subject_order (lowest_subject s None) es)) (keys es) dataset (scanned (out_any_scan s) es asc) same
 
   pub inward_answered : Ascends object_order es → (g : GraphRef) (p o : Term) → is_one_graph g ≡ true
       → dataset_of (reached (ask.Inward g p o) (keys (pairs_from object_order (lowest_object o p (label_in g)) es))) ≡ inward dataset g p o
   inward_answered asc g p o one =
-      touched (ask.Inward g p o) (λ q. and_true (reaches (ask.Inward g p o) q)) (keys (pairs_from object_order (lowest_object o p (label_in g)) es)) (keys es) dataset (scanned (inward_scan g p o one) es asc) same
+      touched (ask.Inward g p o) (λ q. refl) (keys (pairs_from object_order (lowest_object o p (label_in g)) es)) (keys es) dataset (scanned (inward_scan g p o one) es asc) same
 
   pub inward_any_answered : Ascends object_order es → (p o : Term)
       → dataset_of (reached (ask.InwardAny p o) (keys (pairs_from object_order (lowest_object o p None) es))) ≡ inward_any dataset p o
   inward_any_answered asc p o =
-      touched (ask.InwardAny p o) (λ q. and_true (reaches (ask.InwardAny p o) q)) (keys (pairs_from object_order (lowest_object o p None) es)) (keys es) dataset (scanned (inward_any_scan p o) es asc) same
+      touched (ask.InwardAny p o) (λ q. refl) (keys (pairs_from object_order (lowest_object o p None) es)) (keys es) dataset (scanned (inward_any_scan p o) es asc) same
 
   pub uses_answered : Ascends object_order es → (o : Term)
       → dataset_of (reached (ask.Uses o) (keys (pairs_from object_order (lowest_object o least None) es))) ≡ filter (λ q. touches q (ask.Uses o)) dataset

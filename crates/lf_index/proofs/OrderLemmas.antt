@@ -1,15 +1,18 @@
 -- What the orders of terms and quads tell.
-use Rattle.std.proofs.Common.{◌≡◌, refl, ap, Option, Some, None, Ordering, Less, Equal, Greater}
-use Rattle.std.specs.Ordering.{ordering_then, nat_cmp}
+use Rattle.std.proofs.Common.{◌≡◌, refl, ap, ◌∙◌, Option, Some, None, Ordering, Less, Equal, Greater}
+use Rattle.std.specs.Ordering.{ordering_then, nat_cmp, bool_cmp}
+use Rattle.std.specs.Cmp.{bool_cmp_total, tied_itself}
+use Rattle.lf_rdf.specs.Vocabulary.{rdf_type}
 use Rattle.lf_rdf.specs.declared.term.Term.{Term}
 use Rattle.lf_rdf.specs.declared.quad.Quad.{Quad}
 use Rattle.lf_rdf.specs.Equality.{term_eq, quad_eq}
 use Rattle.def_datasets.specs.Order.{parts_cmp, term_parts}
+use Rattle.def_datasets.specs.Terms.{is_iri, tells_type}
 use Rattle.def_datasets.proofs.SortedLaws.{IsStrict}
 use Rattle.def_datasets.proofs.OrderLaws.{then_second, parts_tell, term_from_parts, term_decides, quad_decides}
 use Rattle.lf_order.proofs.Ties.{then_first}
 use Rattle.lf_index.specs.Numbers.{number_of}
-use Rattle.lf_index.specs.Orders.{term_order, label_order, subjects, predicates, objects, graphs, subject_order, object_order, graph_order}
+use Rattle.lf_index.specs.Orders.{term_order, label_order, subjects, predicates, objects, graphs, kinds, subject_order, object_order, graph_order}
 use Rattle.lf_index.specs.TotalOrders.{term_total, subject_total, object_total, graph_total}
 
 pub then_assoc : (r s t : Ordering) → ordering_then (ordering_then r s) t ≡ ordering_then r (ordering_then s t)
@@ -37,6 +40,10 @@ from_places q r s p o g =
     let gra : q.graph ≡ r.graph = label_tells q.graph r.graph g in
     λ i. record { subject = sub i; predicate = pre i; object = obj i; graph = gra i }
 
+-- the predicate tells the kind
+pub kinds_tie : (q r : Quad) → predicates q r ≡ Equal → kinds q r ≡ Equal
+kinds_tie q r e = ap (λ (t : Term). bool_cmp (is_iri rdf_type t) (tells_type r)) (term_tells q.predicate r.predicate e) ∙ tied_itself bool_cmp_total (tells_type r)
+
 -- ---- each order tells any two values apart
 
 pub term_strictly : IsStrict term_eq term_order
@@ -59,11 +66,12 @@ object_strictly =
     record {
       total = object_total;
       tells = λ q r e.
-          let three = then_first (ordering_then (ordering_then (objects q r) (predicates q r)) (graphs q r)) (subjects q r) e in
-          let two = then_first (ordering_then (objects q r) (predicates q r)) (graphs q r) three in
-          from_places q r (then_second (ordering_then (ordering_then (objects q r) (predicates q r)) (graphs q r)) (subjects q r) e)
-          (then_second (objects q r) (predicates q r) two) (then_first (objects q r) (predicates q r) two)
-          (then_second (ordering_then (objects q r) (predicates q r)) (graphs q r) three);
+          let four = then_first (ordering_then (ordering_then (ordering_then (objects q r) (kinds q r)) (predicates q r)) (graphs q r)) (subjects q r) e in
+          let three = then_first (ordering_then (ordering_then (objects q r) (kinds q r)) (predicates q r)) (graphs q r) four in
+          let two = then_first (ordering_then (objects q r) (kinds q r)) (predicates q r) three in
+          from_places q r (then_second (ordering_then (ordering_then (ordering_then (objects q r) (kinds q r)) (predicates q r)) (graphs q r)) (subjects q r) e)
+          (then_second (ordering_then (objects q r) (kinds q r)) (predicates q r) three) (then_first (objects q r) (kinds q r) two)
+          (then_second (ordering_then (ordering_then (objects q r) (kinds q r)) (predicates q r)) (graphs q r) four);
       decides = quad_decides;
     }
 

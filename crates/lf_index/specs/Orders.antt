@@ -2,10 +2,11 @@
 use Rattle.std.specs.Prelude.{Option}
 use Rattle.std.specs.declared.cmp.Ordering.{Ordering}
 use Rattle.std.specs.Option.{option_cmp}
-use Rattle.std.specs.Ordering.{nat_cmp, on, then_cmp}
+use Rattle.std.specs.Ordering.{nat_cmp, bool_cmp, on, then_cmp}
 use Rattle.lf_rdf.specs.declared.term.Term.{Term}
 use Rattle.lf_rdf.specs.declared.quad.Quad.{Quad}
 use Rattle.def_datasets.specs.Order.{parts_cmp, term_parts}
+use Rattle.def_datasets.specs.Terms.{tells_type}
 use Rattle.lf_index.specs.Numbers.{number_of}
 
 -- terms by their numbers, and then by their parts
@@ -29,13 +30,17 @@ objects = on (λ q. q.object) term_order
 abbrev pub graphs : Quad → Quad → Ordering
 graphs = on (λ q. q.graph) label_order
 
+-- quads that use their object, and then those whose object is a type
+abbrev pub kinds : Quad → Quad → Ordering
+kinds = on tells_type bool_cmp
+
 -- quads by subject, graph, predicate and object
 abbrev pub subject_order : Quad → Quad → Ordering
 subject_order = then_cmp (then_cmp (then_cmp subjects graphs) predicates) objects
 
--- quads by object, predicate, graph and subject
+-- quads by object, kind, predicate, graph and subject: the uses of an object stand together
 abbrev pub object_order : Quad → Quad → Ordering
-object_order = then_cmp (then_cmp (then_cmp objects predicates) graphs) subjects
+object_order = then_cmp (then_cmp (then_cmp (then_cmp objects kinds) predicates) graphs) subjects
 
 -- quads by graph, subject, predicate and object
 abbrev pub graph_order : Quad → Quad → Ordering

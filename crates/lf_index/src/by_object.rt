@@ -1,4 +1,4 @@
-//! Rows in order of object, predicate, graph and subject.
+//! Rows in order of object, kind, predicate, graph and subject.
 ghost use Rattle.std.specs.Prelude.{◌≡◌};
 ghost use Rattle.std.specs.Arc.{arc_value};
 

@@ -1,8 +1,8 @@
-//! Which rows a scan passes, and which of them answer the question.
+//! Which rows a scan for a question passes.
 ghost use Rattle.std.specs.Prelude.{◌≡◌};
 ghost use Rattle.std.specs.Option.{option_copied};
 ghost use Rattle.def_datasets.specs.Terms.{lies_in, tells_type};
-ghost use Rattle.lf_index.specs.Reach.{answers_to, label_in, reaches};
+ghost use Rattle.lf_index.specs.Reach.{label_in, reaches};
 
 use crate::row::Row;
 use lf_base::Same;
@@ -59,26 +59,11 @@ pub fn reaches(question: &Question, row: &Row) -> bool
         Question::InwardAny(predicate, object) => {
             row.predicate.term().is(predicate) && row.object.term().is(object)
         }
-        Question::Uses(object) => row.object.term().is(object),
+        Question::Uses(object) => row.object.term().is(object) && !tells_type(row),
         Question::Named(name) => match &row.graph {
             Some(label) => name.is(label.term()),
             None => false,
         },
         Question::Members(graph) => lies_in(graph, row),
-    }
-}
-
-/// Whether a row that a scan passes answers the question.
-pub fn answers_to(question: &Question, row: &Row) -> bool
-    ensures { result ≡ answers_to question.now row.now }
-{
-    match question {
-        Question::Out(_, _) => true,
-        Question::OutAny(_) => true,
-        Question::Inward(_, _, _) => true,
-        Question::InwardAny(_, _) => true,
-        Question::Uses(_) => !tells_type(row),
-        Question::Named(_) => true,
-        Question::Members(_) => true,
     }
 }

@@ -1,8 +1,9 @@
 //! The four shared terms of a quad, and how two rows stand in each order.
 ghost use Rattle.std.specs.Prelude.{◌≡◌, IfOk};
 ghost use Rattle.std.specs.Option.{option_copied};
-ghost use Rattle.lf_index.specs.Orders.{graph_order, object_order, subject_order};
+ghost use Rattle.lf_index.specs.Orders.{graph_order, kinds, object_order, subject_order};
 
+use crate::reach::tells_type;
 use crate::recent::Recent;
 use crate::shared::{Shared, label_order};
 use lf_base::{Memory, TryCopy};
@@ -76,12 +77,13 @@ impl Row {
             .then_with(|| self.object.order(&other.object))
     }
 
-    /// By object, predicate, graph and subject.
+    /// By object, kind, predicate, graph and subject.
     pub fn object_order(&self, other: &Row) -> Ordering
         ensures { result ≡ object_order self.now other.now }
     {
         self.object
             .order(&other.object)
+            .then_with(|| kind_order(self, other))
             .then_with(|| self.predicate.order(&other.predicate))
             .then_with(|| label_order(&self.graph, &other.graph))
             .then_with(|| self.subject.order(&other.subject))
@@ -96,6 +98,13 @@ impl Row {
             .then_with(|| self.predicate.order(&other.predicate))
             .then_with(|| self.object.order(&other.object))
     }
+}
+
+// How two rows stand by whether they tell a type: those that don't come first.
+fn kind_order(one: &Row, two: &Row) -> Ordering
+    ensures { result ≡ kinds one.now two.now }
+{
+    tells_type(one).cmp(&tells_type(two))
 }
 
 /// A shared label, where there is one.

@@ -5,7 +5,7 @@ ghost use Rattle.lf_ptree.specs.Ranges.{pairs_left};
 ghost use Rattle.lf_index.specs.Reach.{nodes_reached, reached};
 
 use crate::lined::Lined;
-use crate::reach::{answers_to, reaches, tells_type};
+use crate::reach::{reaches, tells_type};
 use crate::row::Row;
 use lf_base::Memory;
 use lf_order::{ById, put_node};
@@ -25,7 +25,7 @@ pub trait Keyed {
         ensures { result.now ≡ quad self.now };
 }
 
-/// The quads of a scan that answer a question.
+/// The quads of a scan for a question.
 pub fn quads_reached<K: Keyed>(
     alloc: Global,
     pairs: Pairs<'_, K, ()>,
@@ -39,9 +39,7 @@ pub fn quads_reached<K: Keyed>(
         if !reaches(question, row) {
             return Ok(found);
         }
-        if answers_to(question, row) {
-            found.push(Lined::of(alloc, row)?)?;
-        }
+        found.push(Lined::of(alloc, row)?)?;
     }
     Ok(found)
 }

@@ -261,8 +261,9 @@ fn becomes<L: Ledger>(
     }
 }
 
-// A list of three cells and a type, in line order.
+// A list of three cells, and a type that is used as well, in line order.
 const CELLS: &str = "<http://e/a> <http://e/l> _:c1 .
+<http://e/a> <http://e/p> <http://e/T> .
 <http://e/a> <http://www.w3.org/1999/02/22-rdf-syntax-ns#type> <http://e/T> .
 _:c1 <http://www.w3.org/1999/02/22-rdf-syntax-ns#first> \"1\" .
 _:c1 <http://www.w3.org/1999/02/22-rdf-syntax-ns#rest> _:c2 .

@@ -2,7 +2,9 @@ use crate::node::reverse_pick;
 use crate::value::pick_of;
 use def_selection::Pick;
 use lf_base::{ListOf, Memory, Text};
-use lf_model::{Container, DefaultValue, TermTable, Tree, TreeValue, TreeValueList};
+use lf_model::{
+    Container, DefaultValue, Scalar, TermDef, TermTable, Tree, TreeValue, TreeValueList,
+};
 use lf_rdf::Term;
 use lf_select::Inverse;
 use std::alloc::Global;
@@ -171,6 +173,113 @@ fn what_lists_ask_for(rt: HostRuntime) -> Result<(), Fail> {
             &lists,
             &["@none", "@any"]
         )?
+    );
+    Ok(())
+}
+
+/// Whether a default of the number 1 asks for these containers and slots.
+fn scalar_asks(
+    alloc: Global,
+    datatype: Option<Text>,
+    containers: &[Container],
+    preferred: &[&str],
+) -> Result<bool, Memory> {
+    let value = TreeValue::Fallback(DefaultValue::Scalar {
+        scalar: Scalar::Whole(1),
+        datatype,
+        language: None,
+    });
+    asks(alloc, &value, true, containers, preferred)
+}
+
+fn reference_asks(alloc: Global, preferred: &[&str]) -> Result<bool, Memory> {
+    let value = TreeValue::Fallback(DefaultValue::Ref(iri(alloc)?));
+    asks(alloc, &value, true, &SETS, preferred)
+}
+
+#[test]
+fn what_defaults_ask_for(rt: HostRuntime) -> Result<(), Fail> {
+    let alloc = rt.alloc();
+    assert!(rt;
+        scalar_asks(
+            alloc,
+            Some(Text::of(alloc, "http://e/t")?),
+            &SETS,
+            &["http://e/t", "@none", "@any"]
+        )?
+    );
+    let maps_last = [
+        Container::Set,
+        Container::NoContainer,
+        Container::Language,
+        Container::LanguageSet,
+    ];
+    assert!(rt; scalar_asks(alloc, None, &maps_last, &["@null", "@none", "@any"])?);
+    assert!(rt; reference_asks(alloc, &["@id", "@vocab", "@none", "@any"])?);
+    assert!(rt;
+        asks(
+            alloc,
+            &TreeValue::EmptyFallback,
+            true,
+            &SETS,
+            &["@id", "@none", "@any"]
+        )?
+    );
+    Ok(())
+}
+
+/// Whether a list of one item asks for these slots, in a list and without a container.
+fn list_asks(alloc: Global, item: TreeValue, preferred: &[&str]) -> Result<bool, Memory> {
+    let value = TreeValue::List(ListOf::from_vec(vec![in alloc; item]?));
+    let lists = [Container::List, Container::NoContainer];
+    asks(alloc, &value, true, &lists, preferred)
+}
+
+#[test]
+fn what_lists_of_one_kind_ask_for(rt: HostRuntime) -> Result<(), Fail> {
+    let alloc = rt.alloc();
+    let named = TreeValue::Node(node(alloc, None));
+    assert!(rt; list_asks(alloc, named, &["@id", "@none", "@any"])?);
+    let inner = TreeValue::List(ListOf::new(alloc));
+    assert!(rt; list_asks(alloc, inner, &["@id", "@none", "@any"])?);
+    let tagged = literal(alloc, STRING, Some(Text::of(alloc, "en")?))?;
+    assert!(rt; list_asks(alloc, tagged, &["en", "@none", "@any"])?);
+    let plain = literal(alloc, STRING, None)?;
+    assert!(rt; list_asks(alloc, plain, &["@null", "@none", "@any"])?);
+    Ok(())
+}
+
+/// The inverse of a context that has one term, `x` for `http://e/x`.
+fn inverse_of_one(alloc: Global) -> Result<Inverse, Memory> {
+    let term = TermDef {
+        name: Text::of(alloc, "x")?,
+        iri: Some(Text::of(alloc, "http://e/x")?),
+        prefix: false,
+        reverse: false,
+        coercion: None,
+        language: None,
+        container: Container::NoContainer,
+    };
+    let table = TermTable {
+        vocab: None,
+        language: None,
+        terms: ListOf::from_vec(vec![in alloc; term]?),
+        type_set: false,
+    };
+    Inverse::of(alloc, &table)
+}
+
+#[test]
+fn a_node_whose_id_is_a_term_asks_for_the_term_first(rt: HostRuntime) -> Result<(), Fail> {
+    let alloc = rt.alloc();
+    let inverse = inverse_of_one(alloc)?;
+    let turned = reverse_pick(alloc, &inverse, &Some(iri(alloc)?))?;
+    assert!(rt;
+        has(
+            &turned,
+            &SETS,
+            &["@reverse", "@vocab", "@id", "@none", "@any"]
+        )
     );
     Ok(())
 }

@@ -11,3 +11,4 @@ pub mod Gains
 pub mod EmbedProofs
 pub mod ContentProofs
 pub mod TreeProofs
+pub mod KeyProofs

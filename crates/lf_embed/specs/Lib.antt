@@ -7,3 +7,4 @@ pub mod Runs
 pub mod Walks
 pub mod Cycle
 pub mod Embeds
+pub mod Keys

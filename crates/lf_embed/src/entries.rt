@@ -26,7 +26,8 @@ pub fn refer(alloc: Global, id: &Term, walk: &mut Walk) -> Result<Tree, Stop>
     ensures path { path_of walk.new ≡ path_of walk.old }
     ensures grows { OnOk result ((state_of walk.old).count ≤ (state_of walk.new).count) }
 {
-    match walk.count_item() {
+    let counted = walk.count_item();
+    match counted {
         Err(stop) => Err(stop),
         Ok(()) => Ok(reference(alloc, id)?),
     }

@@ -1,6 +1,7 @@
 //! Embedding: the outcome of a term by a frame (JSON-LD 1.1 Framing, section 4).
 #![tactic(auto)]
 
+mod all_terms;
 mod choices;
 mod defaults;
 mod embed;
@@ -14,6 +15,7 @@ mod place;
 mod tests;
 mod walk;
 
+pub use all_terms::outcomes_of;
 pub use choices::{
     ReferenceRule, entering, framed_graph, is_left, reference_rule, seen_view, types_for,
 };

@@ -31,7 +31,9 @@ pub const PATH_LIMIT: u32 = 256;
 /// The outcome of a term by a frame (JSON-LD 1.1 Framing, section 4.2.1: the top frame selects nodes of the framed graph): the term
 /// is no key, it doesn't match, its tree, or the limit of items or of depth that its tree is past.
 ///
-/// The nodes are asked once for each visit. The questions are near the term, where the predicates of the dataset are IRIs.
+/// A node is viewed once for each visit. For a tree of n items it takes some n log n comparisons of texts, for each node that it
+/// holds one with each step of the path, and for each property of a node one with each property of its frame. The questions are near
+/// the term, where the predicates of the dataset are IRIs.
 pub fn tree<N: Nodes, L: Ledger>(
     alloc: Global,
     nodes: &mut N,

@@ -1,6 +1,7 @@
 -- A text under way, up to the limit of a document's bytes.
 use Rattle.std.specs.Prelude.{List, [], ◌∷◌, ◌++◌, ℕ, ◌≤◌, Bool, Option, Some, None, nat_lt, length, if◌then◌else◌}
 use Rattle.std.specs.Str.{IsUtf8}
+use Rattle.lf_base.specs.Ascii as ch
 use Rattle.lf_model.specs.declared.document.Doc.{Doc}
 use Rattle.lf_model.specs.declared.document.Doc.TheVariants as doc
 use Rattle.lf_model.specs.declared.document.Limit.TheVariants.{DocumentBytes}
@@ -27,4 +28,4 @@ doc_of (Some text) = doc.Bytes text
 
 -- a comma, where a value stands before
 abbrev pub comma_if : Bool → List ℕ
-comma_if after = if after then 44 ∷ [] else []
+comma_if after = if after then ch.comma ∷ [] else []

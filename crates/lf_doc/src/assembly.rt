@@ -23,7 +23,7 @@ use lf_model::{Doc, Frame, Json, OutcomeList};
 use lf_select::Inverse;
 use std::alloc::Global;
 
-/// The text of the context and the maps, unless it is too long.
+// The text of the context and the maps, unless it is too long.
 fn written(alloc: Global, inverse: &Inverse, context: &Json, maps: Vec<Json>) -> Result<Doc, Memory>
     ensures { IfOk result (λ doc. doc ≡ within_bytes
         (json_text (document_json inverse.now (json_data context.now) (map json_data maps.items)))) }
@@ -35,7 +35,7 @@ fn written(alloc: Global, inverse: &Inverse, context: &Json, maps: Vec<Json>) ->
     sheet.doc()
 }
 
-/// The error of compaction is the document.
+// The error of compaction is the document.
 fn refused(error: CompactErr) -> Result<Doc, Memory>
     ensures { IfOk result (λ doc. (table : TermTable) (context : JsonValue) (answer : Option (List JsonValue))
         → CompactedAll (Err error) answer → doc ≡ printed_doc table context answer) }
@@ -46,7 +46,7 @@ fn refused(error: CompactErr) -> Result<Doc, Memory>
     }
 }
 
-/// The document where no limit of framing is met.
+// The document where no limit of framing is met.
 fn printed(alloc: Global, frame: &Frame, outcomes: &OutcomeList) -> Result<Doc, Memory>
     ensures { IfOk result (λ doc. doc ≡ printed_doc frame.now.table (json_data frame.now.context)
         (compact_all frame.now.table (pruned (trees_of (map outcome_data outcomes.now))))) }
@@ -62,7 +62,8 @@ fn printed(alloc: Global, frame: &Frame, outcomes: &OutcomeList) -> Result<Doc, 
 /// The document of a frame and of the outcomes of a dataset's terms, in order of the terms: a limit of framing, else the
 /// error `IRI confused with prefix`, else the limit of its bytes, else its text (JSON-LD 1.1 Framing, section 4.1). It has
 /// at most 262,144 items and 33,554,432 bytes. Its time grows as n log n in the items, the terms of the context and the
-/// bytes; the context is turned round once.
+/// bytes; the context is turned round once. Its calls go as deep as the trees nest: lists nested as deep as a tree has items,
+/// 65,536, take below 64 MiB of stack.
 pub fn assemble(alloc: Global, frame: &Frame, outcomes: &OutcomeList) -> Result<Doc, Memory>
     ensures { IfOk result (λ doc. doc ≡ document_of frame.now (map outcome_data outcomes.now)) }
 {

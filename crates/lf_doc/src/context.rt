@@ -18,7 +18,7 @@ fn is_version(key: &Text) -> bool
     key.as_str() == "@version"
 }
 
-/// A copy without the entries of `@version`, at whatever depth they stand.
+// A copy without the entries of `@version`, at whatever depth they stand.
 #[cycle(copying)]
 fn copy_value(alloc: Global, value: &Json) -> Result<Json, Memory>
     ensures { IfOk result (λ copied. json_data copied ≡ without_version (json_data value.now)) }
@@ -62,7 +62,7 @@ fn copy_members(alloc: Global, members: &JsonMap) -> Result<JsonMap, Memory>
     Ok(MapOf::from_vec(copied))
 }
 
-/// A context that has something to say: null, `[]` and `{}` have nothing.
+// A context that has something to say: null, `[]` and `{}` have nothing.
 fn shown(context: Json) -> Option<Json>
     ensures { shown (json_data context) ≡ entry_of (option_map json_data result) }
 {

@@ -19,7 +19,7 @@ use lf_select::Inverse;
 use lf_tidy::{Counts, tidy};
 use std::alloc::Global;
 
-/// A tree without the ids that are counted once, compacted.
+// A tree without the ids that are counted once, compacted.
 fn tidied_map(
     alloc: Global,
     inverse: &Inverse,

@@ -1,5 +1,6 @@
 //! JSON values written as their compact texts (RFC 8259, section 2).
 ghost use Rattle.std.specs.Prelude.{◌≡◌, ◌++◌, ◌∷◌, [], OnOk};
+ghost use Rattle.lf_base.specs.Ascii as ch;
 ghost use Rattle.def_printed.specs.JsonText.{json_array, json_object, json_string};
 ghost use Rattle.def_documents.specs.JsonPrint.{item_texts, json_text, member_texts, truth_text, whole_text};
 ghost use Rattle.lf_model.specs.JsonBridge.{items_data, json_data, members_data};
@@ -23,7 +24,7 @@ pub fn separate(alloc: Global, sheet: &mut Sheet, after: bool) -> Result<(), Mem
 
 /// A key with its colon.
 pub fn write_key(alloc: Global, sheet: &mut Sheet, key: &Text) -> Result<(), Memory>
-    ensures { OnOk result (sheet.new ≡ appended sheet.old (json_string key.now ++ 58 ∷ [])) }
+    ensures { OnOk result (sheet.new ≡ appended sheet.old (json_string key.now ++ ch.colon ∷ [])) }
 {
     sheet.string(alloc, key.as_str())?;
     sheet.append(alloc, ":")

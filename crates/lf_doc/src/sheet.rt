@@ -17,6 +17,8 @@ use std::mem;
 #[derive(Drop)]
 pub struct Sheet {
     bytes: Vec<u8>,
+    /// Room in which strings are made: a `Writer` gets ready as many bytes again as it finds, up to a limit.
+    room: Vec<u8>,
     over: bool,
 }
 
@@ -41,20 +43,29 @@ impl Sheet {
     {
         Sheet {
             bytes: Vec::new(alloc),
+            room: Vec::new(alloc),
             over: false,
         }
     }
 
-    fn of(bytes: Vec<u8>) -> Sheet
+    fn of(bytes: Vec<u8>, room: Vec<u8>) -> Sheet
         requires { IsUtf8 bytes.items }
         ensures { result ≡ within bytes.items }
     {
         if bytes.len() as u64 > byte_limit() {
             let mut bytes = bytes;
             bytes.clear();
-            Sheet { bytes, over: true }
+            Sheet {
+                bytes,
+                room,
+                over: true,
+            }
         } else {
-            Sheet { bytes, over: false }
+            Sheet {
+                bytes,
+                room,
+                over: false,
+            }
         }
     }
 
@@ -65,9 +76,10 @@ impl Sheet {
         if self.over {
             return Ok(());
         }
+        let room = mem::replace(&mut self.room, Vec::new(alloc));
         let mut bytes = mem::replace(&mut self.bytes, Vec::new(alloc));
         bytes.extend_from_slice(text.as_bytes())?;
-        *self = Sheet::of(bytes);
+        *self = Sheet::of(bytes, room);
         Ok(())
     }
 
@@ -78,8 +90,11 @@ impl Sheet {
         if self.over {
             return Ok(());
         }
-        let bytes = mem::replace(&mut self.bytes, Vec::new(alloc));
-        *self = Sheet::of(with_string(bytes, text)?);
+        let room = mem::replace(&mut self.room, Vec::new(alloc));
+        let quoted = quoted(room, text)?;
+        let mut bytes = mem::replace(&mut self.bytes, Vec::new(alloc));
+        bytes.extend_from_slice(quoted.as_slice())?;
+        *self = Sheet::of(bytes, quoted);
         Ok(())
     }
 
@@ -87,7 +102,7 @@ impl Sheet {
     pub fn doc(self) -> Result<Doc, Memory>
         ensures { IfOk result (λ doc. doc ≡ doc_of self) }
     {
-        let Sheet { bytes, over } = self;
+        let Sheet { bytes, over, .. } = self;
         if over {
             return Ok(Doc::Over(Limit::DocumentBytes));
         }
@@ -95,12 +110,14 @@ impl Sheet {
     }
 }
 
-/// The bytes with the JSON string of these characters behind them.
-fn with_string(bytes: Vec<u8>, text: &str) -> Result<Vec<u8>, Memory>
-    ensures items { IfOk result (λ all. all.items ≡ bytes.items ++ json_string text.now) }
+// The JSON string of these characters, made in the room of other bytes.
+fn quoted(room: Vec<u8>, text: &str) -> Result<Vec<u8>, Memory>
+    ensures items { IfOk result (λ all. all.items ≡ json_string text.now) }
     ensures utf8 { OnOk result (IsUtf8 (json_string text.now)) }
 {
-    let mut out = Writer::new(bytes);
+    let mut room = room;
+    room.clear();
+    let mut out = Writer::new(room);
     out.string(text)?;
     Ok(out.into_inner())
 }

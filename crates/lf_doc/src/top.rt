@@ -36,7 +36,7 @@ fn context_key(alloc: Global) -> Result<Text, Memory>
     Text::of(alloc, context_name())
 }
 
-/// What is written where both values come under one key.
+// What is written where both values come under one key.
 fn both(alloc: Global, first: Json, second: Json) -> Result<Json, Memory>
     ensures { IfOk result (λ json. json_data json ≡ together (json_data first ∷ json_data second ∷ [])) }
 {
@@ -51,7 +51,7 @@ fn both(alloc: Global, first: Json, second: Json) -> Result<Json, Memory>
     }
 }
 
-/// The context beside what stands under its key.
+// The context beside what stands under its key.
 fn beside(alloc: Global, members: &JsonMap, context: Json) -> Result<Json, Memory>
     ensures { IfOk result (λ json. json_data json ≡ together (json_data context ∷ under at_context (members_list (members_data members.now)))) }
 {
@@ -62,7 +62,7 @@ fn beside(alloc: Global, members: &JsonMap, context: Json) -> Result<Json, Memor
     }
 }
 
-/// A map with a context put into it.
+// A map with a context put into it.
 fn with_context(alloc: Global, members: JsonMap, context: Json) -> Result<Json, Memory>
     ensures { IfOk result (λ json. json_data json ≡ object_of ((at_context, json_data context) ∷ members_list (members_data members))) }
 {
@@ -73,14 +73,14 @@ fn with_context(alloc: Global, members: JsonMap, context: Json) -> Result<Json, 
     Ok(Json::Map(members))
 }
 
-/// The members of a map are its entries: their keys stand in order.
+// The members of a map are its entries: their keys stand in order.
 fn is_object(members: &JsonMap)
     ensures { object (members_data members.now) ≡ object_of (members_list (members_data members.now)) }
 {
     let _ = members.as_slice();
 }
 
-/// The members of a value that is a map.
+// The members of a value that is a map.
 fn members_in(alloc: Global, map: Json) -> JsonMap
     ensures { members_list (members_data result) ≡ entries_in (json_data map) }
 {
@@ -95,7 +95,7 @@ fn members_in(alloc: Global, map: Json) -> JsonMap
     }
 }
 
-/// The context, where one is shown, and the members of one map.
+// The context, where one is shown, and the members of one map.
 fn one_map(alloc: Global, context: Option<Json>, map: Json) -> Result<Json, Memory>
     ensures { IfOk result (λ json. json_data json ≡ object_of (entry_of (option_map json_data context) ++ entries_in (json_data map))) }
 {
@@ -109,7 +109,7 @@ fn one_map(alloc: Global, context: Option<Json>, map: Json) -> Result<Json, Memo
     }
 }
 
-/// The members of a document's map before its trees.
+// The members of a document's map before its trees.
 fn with_context_alone(alloc: Global, context: Option<Json>) -> Result<Members, Memory>
     ensures { IfOk result (λ members. Hold members (entry_of (option_map json_data context))) }
 {
@@ -120,7 +120,7 @@ fn with_context_alone(alloc: Global, context: Option<Json>) -> Result<Members, M
     Ok(members)
 }
 
-/// The context, where one is shown, and the array of the maps under the key of `@graph`.
+// The context, where one is shown, and the array of the maps under the key of `@graph`.
 fn several_maps(
     alloc: Global,
     inverse: &Inverse,

@@ -1,0 +1,2 @@
+mod FirstProofs
+mod GivenProofs

@@ -1,0 +1,4 @@
+mod Numbering
+mod Membership
+mod Deltas
+mod Answering

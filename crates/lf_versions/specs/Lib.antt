@@ -1,0 +1,4 @@
+pub mod Commits
+pub mod Numbered
+pub mod Changes
+pub mod ChangeLaws

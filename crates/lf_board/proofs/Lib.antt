@@ -1,0 +1,2 @@
+mod Learnt
+mod Documents

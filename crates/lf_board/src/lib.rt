@@ -1,0 +1,11 @@
+//! Boards: what a frame came to over a version, kept so that a later version needs less.
+#![tactic(auto)]
+
+mod board;
+mod evaluated;
+mod home;
+#[cfg(test)]
+mod tests;
+
+pub use board::{Board, Turn};
+pub use home::HomeBoard;

@@ -1,2 +1,1 @@
-mod Learnt
 mod Documents

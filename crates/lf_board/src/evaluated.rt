@@ -11,12 +11,11 @@ ghost use Rattle.lf_board.specs.Boards.{IsOf};
 
 use lf_base::{Memory, Steps};
 use lf_doc::assemble;
-use lf_embed::tree;
+use lf_embed::outcomes_of;
 use lf_index::Index;
-use lf_model::{Doc, Frame, Outcome, OutcomeList};
+use lf_model::{Doc, Frame, OutcomeList};
 use lf_nodes::NodesOver;
-use lf_oracle::Nodes;
-use lf_rdf::{Term, TermList};
+use lf_rdf::TermList;
 use lf_versions::Version;
 use std::alloc::Global;
 use std::sync::Arc;
@@ -29,37 +28,6 @@ pub struct Evaluated {
     /// One for each term of the version's dataset, in order of the ids.
     pub outcomes: OutcomeList,
     pub doc: Arc<Doc>,
-}
-
-// What a frame gives for one term.
-fn outcome_of<N: Nodes, L: Ledger>(
-    alloc: Global,
-    nodes: &mut N,
-    frame: &Frame,
-    term: &Term,
-    steps: &mut Steps<L>,
-) -> Result<Outcome, Memory>
-    ensures outcome { IfOk result (λ made. outcome_data made ≡ outcome (of_dataset (N.quads nodes.old)) frame.now term.now) }
-    ensures quads_stay { N.quads nodes.new ≡ N.quads nodes.old }
-{
-    tree(alloc, nodes, frame, term, steps)
-}
-
-// What a frame gives for each of some terms, in their order.
-fn outcomes_of<N: Nodes, L: Ledger>(
-    alloc: Global,
-    nodes: &mut N,
-    frame: &Frame,
-    terms: &TermList,
-    steps: &mut Steps<L>,
-) -> Result<OutcomeList, Memory>
-    ensures { IfOk result (λ outcomes. map outcome_data outcomes ≡ map (outcome (of_dataset (N.quads nodes.old)) frame.now) terms.now) }
-{
-    let mut outcomes = OutcomeList::new(alloc);
-    for term in terms.as_slice() {
-        outcomes.push(outcome_of(alloc, nodes, frame, term, steps)?)?;
-    }
-    Ok(outcomes)
 }
 
 // What a frame gives for each of some terms of an index, in their order.

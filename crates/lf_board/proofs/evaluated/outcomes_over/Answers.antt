@@ -9,4 +9,4 @@ pub returns : goal.returns
 returns g c =
     let quads : c.new-nodes.result.oracle.now.index.now ≡ c.args.index.now = ap (λ a. a.index.now) c.new-nodes.ensures.same ∙ c.asker-asker.ensures in
     subst (λ (d : List Quad). IfOk c.outcomes_of.result (λ outcomes. map outcome_data outcomes ≡ map (outcome (of_dataset d) c.args.frame.now) c.args.terms.now)) quads
-    c.outcomes_of.ensures
+    c.outcomes_of.ensures.outcomes

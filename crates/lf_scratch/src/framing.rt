@@ -6,9 +6,9 @@ ghost use Rattle.def_framing.specs.OutcomeBridge.{outcome_data};
 ghost use Rattle.def_framing.specs.Views.{of_dataset};
 ghost use Rattle.def_scratch.specs.Scratch.{scratch_frame};
 
-use crate::outcomes::outcomes_of;
 use lf_base::{Memory, Steps};
 use lf_doc::assemble;
+use lf_embed::outcomes_of;
 use lf_index::Index;
 use lf_model::{Doc, Frame, OutcomeList};
 use lf_nodes::NodesOver;
@@ -16,7 +16,7 @@ use std::alloc::Global;
 use std::marker::Brand;
 use std::sync::ledger::{Blank, Ledger};
 
-/// What a frame gives for each term of an index, in order of the ids.
+// What a frame gives for each term of an index, in order of the ids.
 fn all_outcomes<L: Ledger>(
     alloc: Global,
     index: &Index,
@@ -36,7 +36,8 @@ fn all_outcomes<L: Ledger>(
 }
 
 /// The document of a frame over the quads of an index: that of what the frame gives for each term, in order of the ids
-/// (JSON-LD 1.1 Framing, section 4.1). It asks the index for each term, and keeps nothing for a later version.
+/// (JSON-LD 1.1 Framing, section 4.1). Its questions grow with the nodes of the graphs and with the trees that are made, its
+/// time as n log n in the answers and in the document. It keeps nothing for a later version.
 pub fn frame_dataset(alloc: Global, index: &Index, frame: &Frame) -> Result<Doc, Memory>
     ensures { IfOk result (λ doc. doc ≡ scratch_frame frame.now index.now) }
 {

@@ -2,6 +2,7 @@
 #![tactic(auto)]
 
 mod framing;
-mod outcomes;
+#[cfg(test)]
+mod tests;
 
 pub use framing::frame_dataset;

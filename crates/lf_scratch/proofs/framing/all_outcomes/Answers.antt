@@ -8,4 +8,4 @@ pub returns : goal.returns
 returns g c =
     let quads : c.new-nodes.result.oracle.now.index.now ≡ c.args.index.now = ap (λ a. a.index.now) c.new-nodes.ensures.same ∙ c.asker-asker.ensures in
     subst (λ ts. IfOk c.outcomes_of.result (λ outcomes. map outcome_data outcomes ≡ map (outcome (of_dataset c.args.index.now) c.args.frame.now) ts)) c.in_ok-terms.ensures
-    (subst (λ d. IfOk c.outcomes_of.result (λ outcomes. map outcome_data outcomes ≡ map (outcome (of_dataset d) c.args.frame.now) c.in_ok-terms.terms)) quads c.outcomes_of.ensures)
+    (subst (λ d. IfOk c.outcomes_of.result (λ outcomes. map outcome_data outcomes ≡ map (outcome (of_dataset d) c.args.frame.now) c.in_ok-terms.terms)) quads c.outcomes_of.ensures.outcomes)

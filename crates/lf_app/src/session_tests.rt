@@ -91,6 +91,18 @@ fn joined(alloc: Global, texts: &[&str]) -> Result<String, Memory> {
     Ok(all)
 }
 
+// Whether a session over this input ends with this status and sends just this.
+fn is_answered(alloc: Global, input: &str, status: u8, wanted: &str) -> Result<bool, Memory> {
+    let (ended, sent) = session(alloc, input, &WELL)?;
+    Ok(ended == status && sent.as_str() == wanted)
+}
+
+// Whether a request is answered by this line of status and what follows it, and the stream ends clean.
+fn is_refused(alloc: Global, input: &str, wanted: &str) -> Result<bool, Memory> {
+    let whole = joined(alloc, &["HTTP/1.1 ", wanted])?;
+    is_answered(alloc, input, 0, whole.as_str())
+}
+
 #[test]
 fn a_first_session_comes_in_any_pieces(rt: HostRuntime) -> Result<(), Fail> {
     let alloc = rt.alloc();
@@ -108,104 +120,161 @@ fn a_first_session_comes_in_any_pieces(rt: HostRuntime) -> Result<(), Fail> {
 #[test]
 fn bad_heads_end_the_stream(rt: HostRuntime) -> Result<(), Fail> {
     let alloc = rt.alloc();
-    let rows = [
-        (
+    assert!(rt;
+        is_answered(
+            alloc,
             "GET /version HTTP/1.1\r\n\r\nGET /version HTTP/1.1\r\nHost: x\r\n\r\n",
             11,
-            "HTTP/1.1 400 Bad Request\r\nContent-Type: application/json\r\nConnection: close\r\nContent-Length: 20\r\n\r\n{\"error\":\"bad head\"}",
-        ),
-        (
+            "HTTP/1.1 400 Bad Request\r\nContent-Type: application/json\r\nConnection: close\r\nContent-Length: 20\r\n\r\n{\"error\":\"bad head\"}"
+        )?
+    );
+    assert!(rt;
+        is_answered(
+            alloc,
             "PUT /frames/a HTTP/1.1\r\nHost: x\r\n\r\n{}",
             11,
-            "HTTP/1.1 411 Length Required\r\nContent-Type: application/json\r\nConnection: close\r\nContent-Length: 27\r\n\r\n{\"error\":\"length required\"}",
-        ),
-        (
+            "HTTP/1.1 411 Length Required\r\nContent-Type: application/json\r\nConnection: close\r\nContent-Length: 27\r\n\r\n{\"error\":\"length required\"}"
+        )?
+    );
+    assert!(rt;
+        is_answered(
+            alloc,
             "POST /patch HTTP/1.1\r\nHost: x\r\nContent-Length: 0\r\nExpect: 100-continue\r\n\r\n",
             11,
-            "HTTP/1.1 417 Expectation Failed\r\nContent-Type: application/json\r\nConnection: close\r\nContent-Length: 23\r\n\r\n{\"error\":\"expectation\"}",
-        ),
-        (
+            "HTTP/1.1 417 Expectation Failed\r\nContent-Type: application/json\r\nConnection: close\r\nContent-Length: 23\r\n\r\n{\"error\":\"expectation\"}"
+        )?
+    );
+    assert!(rt;
+        is_answered(
+            alloc,
             "POST /patch HTTP/1.1\r\nHost: x\r\nContent-Length: 67108865\r\n\r\n",
             11,
-            "HTTP/1.1 413 Content Too Large\r\nContent-Type: application/json\r\nConnection: close\r\nContent-Length: 25\r\n\r\n{\"error\":\"body too long\"}",
-        ),
-        (
+            "HTTP/1.1 413 Content Too Large\r\nContent-Type: application/json\r\nConnection: close\r\nContent-Length: 25\r\n\r\n{\"error\":\"body too long\"}"
+        )?
+    );
+    assert!(rt;
+        is_answered(
+            alloc,
             "PATCH /version HTTP/1.1\r\nHost: x\r\n\r\n",
             0,
-            "HTTP/1.1 405 Method Not Allowed\r\nContent-Type: application/json\r\nAllow: GET\r\nContent-Length: 30\r\n\r\n{\"error\":\"method not allowed\"}",
-        ),
-    ];
-    for (input, status, wanted) in rows {
-        let (answered, sent) = session(alloc, input, &WELL)?;
-        assert_eq!(rt; answered, status, "at {input}");
-        assert_eq!(rt; sent.as_str(), wanted, "at {input}");
-    }
+            "HTTP/1.1 405 Method Not Allowed\r\nContent-Type: application/json\r\nAllow: GET\r\nContent-Length: 30\r\n\r\n{\"error\":\"method not allowed\"}"
+        )?
+    );
     Ok(())
 }
 
 #[test]
-fn requests_are_refused_in_their_order(rt: HostRuntime) -> Result<(), Fail> {
+fn requests_are_refused_by_their_form(rt: HostRuntime) -> Result<(), Fail> {
     let alloc = rt.alloc();
-    let rows = [
-        (
+    assert!(rt;
+        is_refused(
+            alloc,
             "GET /nowhere HTTP/1.1\r\nHost: x\r\nContent-Encoding: gzip\r\n\r\n",
-            "415 Unsupported Media Type\r\nContent-Type: application/json\r\nContent-Length: 28\r\n\r\n{\"error\":\"content encoding\"}",
-        ),
-        (
+            "415 Unsupported Media Type\r\nContent-Type: application/json\r\nContent-Length: 28\r\n\r\n{\"error\":\"content encoding\"}"
+        )?
+    );
+    assert!(rt;
+        is_refused(
+            alloc,
             "PATCH /turn HTTP/1.1\r\nHost: x\r\n\r\n",
-            "404 Not Found\r\nContent-Type: application/json\r\nContent-Length: 24\r\n\r\n{\"error\":\"no such path\"}",
-        ),
-        (
+            "404 Not Found\r\nContent-Type: application/json\r\nContent-Length: 24\r\n\r\n{\"error\":\"no such path\"}"
+        )?
+    );
+    assert!(rt;
+        is_refused(
+            alloc,
             "HEAD /frames/a HTTP/1.1\r\nHost: x\r\n\r\n",
-            "405 Method Not Allowed\r\nContent-Type: application/json\r\nAllow: GET, PUT, DELETE\r\nContent-Length: 30\r\n\r\n",
-        ),
-        (
+            "405 Method Not Allowed\r\nContent-Type: application/json\r\nAllow: GET, PUT, DELETE\r\nContent-Length: 30\r\n\r\n"
+        )?
+    );
+    Ok(())
+}
+
+#[test]
+fn requests_are_refused_by_their_lines(rt: HostRuntime) -> Result<(), Fail> {
+    let alloc = rt.alloc();
+    assert!(rt;
+        is_refused(
+            alloc,
             "GET /version HTTP/1.1\r\nHost: x\r\nLd-Seen: one\r\nLd-Refresh: later\r\n\r\n",
-            "400 Bad Request\r\nContent-Type: application/json\r\nContent-Length: 23\r\n\r\n{\"error\":\"bad Ld-Seen\"}",
-        ),
-        (
+            "400 Bad Request\r\nContent-Type: application/json\r\nContent-Length: 23\r\n\r\n{\"error\":\"bad Ld-Seen\"}"
+        )?
+    );
+    assert!(rt;
+        is_refused(
+            alloc,
             "GET /version HTTP/1.1\r\nHost: x\r\nLd-Refresh: later\r\n\r\n",
-            "400 Bad Request\r\nContent-Type: application/json\r\nContent-Length: 26\r\n\r\n{\"error\":\"bad Ld-Refresh\"}",
-        ),
-        (
+            "400 Bad Request\r\nContent-Type: application/json\r\nContent-Length: 26\r\n\r\n{\"error\":\"bad Ld-Refresh\"}"
+        )?
+    );
+    assert!(rt;
+        is_refused(
+            alloc,
             "GET /version HTTP/1.1\r\nHost: x\r\n\r\n",
-            "200 OK\r\nContent-Type: application/json\r\nLd-Version: 0\r\nContent-Length: 13\r\n\r\n{\"version\":0}",
-        ),
-        (
+            "200 OK\r\nContent-Type: application/json\r\nLd-Version: 0\r\nContent-Length: 13\r\n\r\n{\"version\":0}"
+        )?
+    );
+    Ok(())
+}
+
+#[test]
+fn requests_are_refused_by_what_there_is(rt: HostRuntime) -> Result<(), Fail> {
+    let alloc = rt.alloc();
+    assert!(rt;
+        is_refused(
+            alloc,
             "DELETE /frames/a HTTP/1.1\r\nHost: x\r\n\r\n",
-            "404 Not Found\r\nContent-Type: application/json\r\nContent-Length: 25\r\n\r\n{\"error\":\"unknown frame\"}",
-        ),
-        (
+            "404 Not Found\r\nContent-Type: application/json\r\nContent-Length: 25\r\n\r\n{\"error\":\"unknown frame\"}"
+        )?
+    );
+    assert!(rt;
+        is_refused(
+            alloc,
             "GET /frames/a HTTP/1.1\r\nHost: x\r\n\r\n",
-            "404 Not Found\r\nContent-Type: application/json\r\nContent-Length: 25\r\n\r\n{\"error\":\"unknown frame\"}",
-        ),
-        (
+            "404 Not Found\r\nContent-Type: application/json\r\nContent-Length: 25\r\n\r\n{\"error\":\"unknown frame\"}"
+        )?
+    );
+    assert!(rt;
+        is_refused(
+            alloc,
             "PUT /frames/a.b HTTP/1.1\r\nHost: x\r\nContent-Length: 2\r\n\r\n{}",
-            "400 Bad Request\r\nContent-Type: application/json\r\nContent-Length: 20\r\n\r\n{\"error\":\"bad name\"}",
-        ),
-        (
+            "400 Bad Request\r\nContent-Type: application/json\r\nContent-Length: 20\r\n\r\n{\"error\":\"bad name\"}"
+        )?
+    );
+    Ok(())
+}
+
+#[test]
+fn frames_and_patches_are_refused(rt: HostRuntime) -> Result<(), Fail> {
+    let alloc = rt.alloc();
+    assert!(rt;
+        is_refused(
+            alloc,
             "PUT /frames/a HTTP/1.1\r\nHost: x\r\nContent-Length: 1\r\n\r\n{",
-            "400 Bad Request\r\nContent-Type: application/json\r\nContent-Length: 20\r\n\r\n{\"error\":\"not JSON\"}",
-        ),
-        (
+            "400 Bad Request\r\nContent-Type: application/json\r\nContent-Length: 20\r\n\r\n{\"error\":\"not JSON\"}"
+        )?
+    );
+    assert!(rt;
+        is_refused(
+            alloc,
             "PUT /frames/a HTTP/1.1\r\nHost: x\r\nContent-Length: 16\r\n\r\n{\"http://p\":2.5}",
-            "400 Bad Request\r\nContent-Type: application/json\r\nContent-Length: 50\r\n\r\n{\"error\":\"fractional number\",\"path\":\"/http:~1~1p\"}",
-        ),
-        (
+            "400 Bad Request\r\nContent-Type: application/json\r\nContent-Length: 50\r\n\r\n{\"error\":\"fractional number\",\"path\":\"/http:~1~1p\"}"
+        )?
+    );
+    assert!(rt;
+        is_refused(
+            alloc,
             "PUT /frames/a HTTP/1.1\r\nHost: x\r\nContent-Length: 18\r\n\r\n{\"@embed\":\"@link\"}",
-            "422 Unprocessable Content\r\nContent-Type: application/json\r\nContent-Length: 32\r\n\r\n{\"error\":\"invalid @embed value\"}",
-        ),
-        (
+            "422 Unprocessable Content\r\nContent-Type: application/json\r\nContent-Length: 32\r\n\r\n{\"error\":\"invalid @embed value\"}"
+        )?
+    );
+    assert!(rt;
+        is_refused(
+            alloc,
             "POST /patch HTTP/1.1\r\nHost: x\r\nContent-Length: 24\r\n\r\n\n\n<http://e/a> <p> \"x\" .",
-            "400 Bad Request\r\nContent-Type: application/json\r\nContent-Length: 33\r\n\r\n{\"error\":\"relative IRI\",\"line\":3}",
-        ),
-    ];
-    for (input, wanted) in rows {
-        let (status, sent) = session(alloc, input, &WELL)?;
-        let whole = joined(alloc, &["HTTP/1.1 ", wanted])?;
-        assert_eq!(rt; status, 0, "at {input}");
-        assert_eq!(rt; sent.as_str(), whole.as_str(), "at {input}");
-    }
+            "400 Bad Request\r\nContent-Type: application/json\r\nContent-Length: 33\r\n\r\n{\"error\":\"relative IRI\",\"line\":3}"
+        )?
+    );
     Ok(())
 }
 
@@ -220,17 +289,22 @@ fn a_body_that_is_longer_than_told_is_a_bad_head(rt: HostRuntime) -> Result<(), 
     Ok(())
 }
 
+// Puts a request that registers the empty frame under a name.
+fn put_empty_frame(input: &mut String, name: char) -> Result<(), Memory> {
+    input.push_str("PUT /frames/")?;
+    input.push(name)?;
+    input.push_str(" HTTP/1.1\r\nHost: x\r\nContent-Length: 2\r\n\r\n{}")?;
+    Ok(())
+}
+
 #[test]
 fn a_seventeenth_frame_is_one_too_many(rt: HostRuntime) -> Result<(), Fail> {
     let alloc = rt.alloc();
     let mut input = String::new(alloc);
-    for name in [
-        "a", "b", "c", "d", "e", "f", "g", "h", "i", "j", "k", "l", "m", "n", "o", "p", "q", "a",
-    ] {
-        input.push_str("PUT /frames/")?;
-        input.push_str(name)?;
-        input.push_str(" HTTP/1.1\r\nHost: x\r\nContent-Length: 2\r\n\r\n{}")?;
+    for name in b'a'..=b'q' {
+        put_empty_frame(&mut input, char::from(name))?;
     }
+    put_empty_frame(&mut input, 'a')?;
     input.push_str("DELETE /frames/a HTTP/1.1\r\nHost: x\r\n\r\n")?;
     let (status, sent) = session(alloc, input.as_str(), &WELL)?;
     assert_eq!(rt; status, 0);
@@ -257,45 +331,60 @@ fn each_number_told_is_needed(rt: HostRuntime) -> Result<(), Fail> {
 #[test]
 fn a_request_that_asks_to_close_is_the_last(rt: HostRuntime) -> Result<(), Fail> {
     let alloc = rt.alloc();
-    let version = "{\"version\":0}";
-    for (input, wanted) in [
-        (
+    assert!(rt;
+        is_answered(
+            alloc,
             "GET /version HTTP/1.1\r\nHost: x\r\nConnection: x, Close\r\n\r\nGET /version HTTP/1.1\r\nHost: x\r\n\r\n",
-            "HTTP/1.1 200 OK\r\nContent-Type: application/json\r\nLd-Version: 0\r\nConnection: close\r\nContent-Length: 13\r\n\r\n",
-        ),
-        (
+            0,
+            "HTTP/1.1 200 OK\r\nContent-Type: application/json\r\nLd-Version: 0\r\nConnection: close\r\nContent-Length: 13\r\n\r\n{\"version\":0}"
+        )?
+    );
+    assert!(rt;
+        is_answered(
+            alloc,
             "GET /version HTTP/1.0\r\n\r\nGET /version HTTP/1.1\r\nHost: x\r\n\r\n",
-            "HTTP/1.1 200 OK\r\nContent-Type: application/json\r\nLd-Version: 0\r\nConnection: close\r\nContent-Length: 13\r\n\r\n",
-        ),
-    ] {
-        let (status, sent) = session(alloc, input, &WELL)?;
-        let whole = joined(alloc, &[wanted, version])?;
-        assert_eq!(rt; status, 0);
-        assert_eq!(rt; sent.as_str(), whole.as_str());
+            0,
+            "HTTP/1.1 200 OK\r\nContent-Type: application/json\r\nLd-Version: 0\r\nConnection: close\r\nContent-Length: 13\r\n\r\n{\"version\":0}"
+        )?
+    );
+    Ok(())
+}
+
+// So many bytes of the first session came: the end of the messages tried so far, whether one ends with the last byte that came,
+// and what is sent.
+#[derive(Drop)]
+struct Came {
+    bytes: usize,
+    end: usize,
+    whole: bool,
+    sent: String,
+}
+
+// One message more, and its reply.
+fn take(came: &mut Came, message: &str, reply: &str) -> Result<(), Memory> {
+    came.end = came.end.saturating_add(message.len());
+    if came.end <= came.bytes {
+        came.sent.push_str(reply)?;
+    }
+    if came.end == came.bytes {
+        came.whole = true;
     }
     Ok(())
 }
 
 // How much of the replies is sent where so many bytes of the first session came.
 fn replies_to(alloc: Global, bytes: usize) -> Result<(bool, String), Memory> {
-    let mut sent = String::new(alloc);
-    let mut end = 0;
-    let mut whole = bytes == 0;
-    for (message, reply) in [
-        (PATCH, PATCHED),
-        (PUT, CREATED),
-        (GET, PENDING),
-        (GET_NOW, DOCUMENT),
-    ] {
-        end = message.len().saturating_add(end);
-        if end <= bytes {
-            sent.push_str(reply)?;
-        }
-        if end == bytes {
-            whole = true;
-        }
-    }
-    Ok((whole, sent))
+    let mut came = Came {
+        bytes,
+        end: 0,
+        whole: bytes == 0,
+        sent: String::new(alloc),
+    };
+    take(&mut came, PATCH, PATCHED)?;
+    take(&mut came, PUT, CREATED)?;
+    take(&mut came, GET, PENDING)?;
+    take(&mut came, GET_NOW, DOCUMENT)?;
+    Ok((came.whole, came.sent))
 }
 
 #[test]

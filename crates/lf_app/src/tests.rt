@@ -14,23 +14,27 @@ const PLAIN_PRINTED: &str = "{\"@id\":\"http://e/a\",\"http://e/p\":\"x\"}\n";
 const USAGE: &str =
     "usage: ldframes frame FRAME DATA.. or check FRAME or load SEED N or session [NAME=PATH].. or serve PORT WORKERS [NAME=PATH]..\n";
 
-// What the files `f`, `d` and `h` hold.
+/// What the files `f`, `d` and `h` hold.
 #[derive(Clone, Copy)]
-struct Files<'a> {
-    frame: &'a str,
-    data: &'a str,
-    more: &'a str,
+pub struct Files<'a> {
+    pub frame: &'a str,
+    pub data: &'a str,
+    pub more: &'a str,
 }
 
-// How the outside behaves: the length of the pieces that the output takes, and which of its calls and of the shelf's fail.
+/// How the outside behaves: the bytes that the output has room for, the length of the pieces that it takes, and which of its
+/// calls and of the shelf's fail.
 #[derive(Clone, Copy)]
-struct Outside {
-    piece: usize,
-    write: u64,
-    take: u64,
+pub struct Outside {
+    pub room: usize,
+    pub piece: usize,
+    pub write: u64,
+    pub take: u64,
 }
 
-const WELL: Outside = Outside {
+/// An outside without faults.
+pub const WELL: Outside = Outside {
+    room: ROOM,
     piece: ROOM,
     write: u64::MAX,
     take: u64::MAX,
@@ -53,8 +57,8 @@ fn shelf_of(alloc: Global, files: &Files<'_>, take: u64) -> Result<MemoryShelf, 
     Ok(MemoryShelf::new(held, calls(alloc, take)?))
 }
 
-// The status of a run of these words, and what it printed.
-fn run(
+/// The status of a run of these words, and what it printed.
+pub fn run(
     alloc: Global,
     words: &[&str],
     files: &Files<'_>,
@@ -64,7 +68,7 @@ fn run(
     let mut input = MemorySource::new(Vec::new(alloc), 1, calls(alloc, u64::MAX)?);
     let mut output = MemorySink::new(
         alloc,
-        ROOM,
+        outside.room,
         outside.piece.max(1),
         calls(alloc, outside.write)?,
     )?;
@@ -165,33 +169,38 @@ fn frames_are_checked(rt: HostRuntime) -> Result<(), Fail> {
     Ok(())
 }
 
-#[test]
-fn words_are_refused(rt: HostRuntime) -> Result<(), Fail> {
-    let alloc = rt.alloc();
+// Whether words are refused.
+fn is_refused(alloc: Global, words: &[&str]) -> Result<bool, Memory> {
     let files = Files {
         frame: "{}",
         data: PLAIN,
         more: "",
     };
-    let lists: [&[&str]; 12] = [
-        &[],
-        &["frame"],
-        &["frame", "f"],
-        &["check"],
-        &["frame", "-f", "d"],
-        &["frame", "f", "d", "-"],
-        &["check", "f", "d"],
-        &["session", "a"],
-        &["session", "a=p"],
-        &["-session"],
-        &["sessions"],
-        &["serve", "7000", "1"],
-    ];
-    for words in lists {
-        let (status, text) = run(alloc, words, &files, &WELL)?;
-        assert_eq!(rt; status, 2);
-        assert_eq!(rt; text.as_str(), USAGE);
-    }
+    let (status, text) = run(alloc, words, &files, &WELL)?;
+    Ok(status == 2 && text.as_str() == USAGE)
+}
+
+#[test]
+fn words_without_files_are_refused(rt: HostRuntime) -> Result<(), Fail> {
+    let alloc = rt.alloc();
+    assert!(rt; is_refused(alloc, &[])?);
+    assert!(rt; is_refused(alloc, &["frame"])?);
+    assert!(rt; is_refused(alloc, &["frame", "f"])?);
+    assert!(rt; is_refused(alloc, &["check"])?);
+    assert!(rt; is_refused(alloc, &["sessions"])?);
+    assert!(rt; is_refused(alloc, &["serve", "7000", "1"])?);
+    Ok(())
+}
+
+#[test]
+fn words_beside_the_lists_are_refused(rt: HostRuntime) -> Result<(), Fail> {
+    let alloc = rt.alloc();
+    assert!(rt; is_refused(alloc, &["frame", "-f", "d"])?);
+    assert!(rt; is_refused(alloc, &["frame", "f", "d", "-"])?);
+    assert!(rt; is_refused(alloc, &["check", "f", "d"])?);
+    assert!(rt; is_refused(alloc, &["session", "a"])?);
+    assert!(rt; is_refused(alloc, &["session", "a=p"])?);
+    assert!(rt; is_refused(alloc, &["-session"])?);
     Ok(())
 }
 
@@ -240,60 +249,67 @@ fn the_first_condition_decides(rt: HostRuntime) -> Result<(), Fail> {
     Ok(())
 }
 
-#[test]
-fn files_fail(rt: HostRuntime) -> Result<(), Fail> {
-    let alloc = rt.alloc();
+// Whether the file of this take, which fails, is named.
+fn is_named(alloc: Global, take: u64, printed: &str) -> Result<bool, Memory> {
     let files = Files {
         frame: "{}",
         data: PLAIN,
         more: "",
     };
-    for (take, printed) in [
-        (0, "cannot read f\n"),
-        (1, "cannot read d\n"),
-        (2, "cannot read h\n"),
-    ] {
-        let outside = Outside {
-            piece: ROOM,
-            write: u64::MAX,
-            take,
-        };
-        let (status, text) = run(alloc, &["frame", "f", "d", "h"], &files, &outside)?;
-        assert_eq!(rt; status, 5);
-        assert_eq!(rt; text.as_str(), printed);
-    }
-    Ok(())
+    let outside = Outside { take, ..WELL };
+    let (status, text) = run(alloc, &["frame", "f", "d", "h"], &files, &outside)?;
+    Ok(status == 5 && text.as_str() == printed)
 }
 
 #[test]
-fn an_output_fails_in_mid_text(rt: HostRuntime) -> Result<(), Fail> {
+fn files_fail(rt: HostRuntime) -> Result<(), Fail> {
     let alloc = rt.alloc();
+    assert!(rt; is_named(alloc, 0, "cannot read f\n")?);
+    assert!(rt; is_named(alloc, 1, "cannot read d\n")?);
+    assert!(rt; is_named(alloc, 2, "cannot read h\n")?);
+    Ok(())
+}
+
+// Whether a run over an output that takes one byte at a time prints as far as the output goes, wherever that fails, and then
+// ends with status 4.
+fn is_printed_in_parts(
+    alloc: Global,
+    words: &[&str],
+    whole: &str,
+    status: u8,
+) -> Result<bool, Memory> {
     let files = Files {
         frame: "{}",
         data: PLAIN,
         more: "x",
     };
-    let texts = [
-        (["frame", "f", "d"], PLAIN_PRINTED, 0),
-        (["frame", "g", "d"], "cannot read g\n", 5),
-        (["frame", "f", "h"], "h line 1: syntax\n", 6),
-        (["frame", "h", "d"], "h: not JSON\n", 7),
-        (["frame", "-", "d"], USAGE, 2),
-    ];
-    for (words, whole, status) in texts {
-        for write in 0..=whole.len() as u64 {
-            let outside = Outside {
-                piece: 1,
-                write,
-                take: 9,
-            };
-            let (answered, text) = run(alloc, words.as_slice(), &files, &outside)?;
-            let cut = write < whole.len() as u64;
-            assert_eq!(rt; answered, if cut { 4 } else { status });
-            assert_eq!(rt; text.len() as u64, write);
-            assert!(rt; whole.starts_with(text.as_str()));
+    for write in 0..=whole.len() as u64 {
+        let outside = Outside {
+            piece: 1,
+            write,
+            ..WELL
+        };
+        let (answered, text) = run(alloc, words, &files, &outside)?;
+        let wanted = if write < whole.len() as u64 {
+            4
+        } else {
+            status
+        };
+        if answered != wanted || text.len() as u64 != write || !whole.starts_with(text.as_str()) {
+            return Ok(false);
         }
     }
+    Ok(true)
+}
+
+#[test]
+fn an_output_fails_in_mid_text(rt: HostRuntime) -> Result<(), Fail> {
+    let alloc = rt.alloc();
+    assert!(rt; is_printed_in_parts(alloc, &["frame", "f", "d"], PLAIN_PRINTED, 0)?);
+    assert!(rt; is_printed_in_parts(alloc, &["frame", "g", "d"], "cannot read g\n", 5)?);
+    assert!(rt; is_printed_in_parts(alloc, &["frame", "f", "h"], "h line 1: syntax\n", 6)?);
+    assert!(rt; is_printed_in_parts(alloc, &["frame", "h", "d"], "h: not JSON\n", 7)?);
+    assert!(rt; is_printed_in_parts(alloc, &["frame", "-", "d"], USAGE, 2)?);
     Ok(())
 }
 

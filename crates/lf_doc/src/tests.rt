@@ -176,3 +176,47 @@ fn the_first_limit_decides(rt: HostRuntime) -> Result<(), Fail> {
     assert!(rt; is_over(&excess, Limit::DocumentItems));
     Ok(())
 }
+
+/// The document of a tree with a text of so many bytes.
+fn long_text(alloc: Global, bytes: u32) -> Result<Doc, Memory> {
+    let mut text = String::new(alloc);
+    for _ in 0..bytes {
+        text.push('x')?;
+    }
+    let mut outcomes = OutcomeList::new(alloc);
+    outcomes.push(saying(alloc, Text::from_string(text)?)?)?;
+    let plain = frame(alloc, ListOf::new(alloc), Json::Null);
+    assemble(alloc, &plain, &outcomes)
+}
+
+/// A node with a text under `http://e/p`.
+fn saying(alloc: Global, text: Text) -> Result<Outcome, Memory> {
+    let literal = TreeValue::Literal(Term::Literal {
+        lexical: text,
+        datatype: Text::of(alloc, "http://www.w3.org/2001/XMLSchema#string")?,
+        language: None,
+    });
+    let values = ListOf::from_vec(vec![in alloc; literal]?);
+    let property = Text::of(alloc, "http://e/p")?;
+    let mut tree = node(alloc, iri(alloc, "http://e/a")?);
+    tree.props.push(TreeProp { property, values })?;
+    Ok(Outcome::Matched(tree))
+}
+
+/// How many bytes a document has.
+fn bytes_of(doc: &Doc) -> usize {
+    match doc {
+        Doc::Bytes(text) => text.as_str().len(),
+        Doc::Refused(_) => 0,
+        Doc::Over(_) => 0,
+    }
+}
+
+#[test]
+fn a_document_has_33_554_432_bytes_at_most(rt: HostRuntime) -> Result<(), Fail> {
+    let full = long_text(rt.alloc(), 33_554_396)?;
+    assert!(rt; bytes_of(&full) == 33_554_432);
+    let excess = long_text(rt.alloc(), 33_554_397)?;
+    assert!(rt; is_over(&excess, Limit::DocumentBytes));
+    Ok(())
+}

@@ -1,6 +1,6 @@
 -- What holds of turns.
-use Rattle.std.specs.Prelude.{◌≡◌, ◌≢◌, ◌≤◌, ◌++◌, List, [], ◌∷◌, ℕ, Bool, true, false, not, IsTrue, Option, Some, None}
-use Rattle.std.specs.List.{list_all, list_any}
+use Rattle.std.specs.Prelude.{◌≡◌, ◌≤◌, ◌++◌, List, [], ℕ, Bool, not, IsTrue, Option, Some, None}
+use Rattle.std.specs.List.{list_all}
 use Rattle.def_histories.specs.declared.live.Live.{Live}
 use Rattle.def_histories.specs.declared.operation.Operation.{Operation}
 use Rattle.def_histories.specs.History.{commits}

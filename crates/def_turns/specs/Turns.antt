@@ -1,6 +1,6 @@
 -- Turns: a frame waits where its published document is older than the newest version and its board isn't away. The next
 -- one is that with the oldest document; and what comes of a board that is given back.
-use Rattle.std.specs.Prelude.{List, [], ◌∷◌, ℕ, nat_eq, nat_lt, Bool, true, false, ◌&&◌, not, if◌then◌else◌, Option, Some, None}
+use Rattle.std.specs.Prelude.{List, [], ◌∷◌, ℕ, nat_eq, nat_lt, Bool, true, ◌&&◌, not, if◌then◌else◌, Option, Some, None}
 use Rattle.std.specs.List.{filter, fold, list_any}
 use Rattle.std.specs.Option.{option_cmp}
 use Rattle.std.specs.Ordering.{nat_cmp, ordering_then, is_lt}

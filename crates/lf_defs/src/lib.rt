@@ -11,12 +11,12 @@ pub use def_selection::{ContainerList, Pick, PickKind};
 pub use lf_base::{ListOf, Memory, Same, Steps, Text, TextList, TryCopy};
 pub use lf_desk::{CommitErr, Desk, RegisterErr};
 pub use lf_model::{
-    Container, Counted, DefaultList, DefaultValue, Doc, Embed, Frame, FrameKind,
-    FrameNode, FrameNodeList, FrameProp, FramePropList, FrameReverse, FrameReverseList, FramedNow,
-    IdTest, Json, JsonList, JsonMap, LdError, Limit, Look, NodeView, Notice, NoticeList, Outcome,
-    OutcomeList, PartTest, Prop, PropList, Scalar, ScalarList, TermDef, TermDefList,
-    TermTable, Tree, TreeList, TreeProp, TreePropList, TreeReverse, TreeReverseList, TreeValue,
-    TreeValueList, TypeTest, Value, ValueList, ValuePattern,
+    Container, Counted, DefaultList, DefaultValue, Doc, Embed, Frame, FrameKind, FrameNode,
+    FrameNodeList, FrameProp, FramePropList, FrameReverse, FrameReverseList, FramedNow, IdTest,
+    Json, JsonList, JsonMap, LdError, Limit, Look, NodeView, Notice, NoticeList, Outcome,
+    OutcomeList, PartTest, Prop, PropList, Scalar, ScalarList, TermDef, TermDefList, TermTable,
+    Tree, TreeList, TreeProp, TreePropList, TreeReverse, TreeReverseList, TreeValue, TreeValueList,
+    TypeTest, Value, ValueList, ValuePattern,
 };
 pub use lf_oracle::{Nodes, Oracle};
 pub use lf_rdf::{

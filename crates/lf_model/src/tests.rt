@@ -1,7 +1,7 @@
 //! A value of each type that is copied, and the errors' names.
 use crate::{
-    Doc, Json, JsonList, JsonMap, LdError, Limit, Scalar, Tree, TreeList,
-    TreeProp, TreePropList, TreeReverseList, TreeValue, TreeValueList, Value, ValueList,
+    Doc, Json, JsonList, JsonMap, LdError, Limit, Scalar, Tree, TreeList, TreeProp, TreePropList,
+    TreeReverseList, TreeValue, TreeValueList, Value, ValueList,
 };
 use lf_base::{Memory, Same, Text, TryCopy};
 use lf_rdf::{Term, TermList};

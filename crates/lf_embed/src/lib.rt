@@ -8,11 +8,15 @@ mod embed;
 mod entries;
 mod fitting;
 mod form;
+#[cfg(test)]
+mod frames_made;
 mod outcomes;
 mod parts;
 mod place;
 #[cfg(test)]
 mod tests;
+#[cfg(test)]
+mod trees_shown;
 mod walk;
 
 pub use all_terms::outcomes_of;

@@ -1,10 +1,10 @@
 //! A board from version to version: the documents of a worked row, by hand-made values of its frame.
-ghost use Rattle.std.specs.Prelude.{◌≡◌, ◌<◌};
+ghost use Rattle.std.specs.Prelude.{◌≡◌, ◌<◌, OnOk};
 ghost use Rattle.def_histories.specs.Jobs.{IsPrefix};
 ghost use Rattle.lf_versions.specs.Commits.{lines_of};
-ghost use Rattle.lf_board.specs.Boards.{MayTurn};
+ghost use Rattle.lf_board.specs.Boards.{MayTurn, turned};
 
-use crate::Board;
+use crate::{Board, HomeBoard};
 use lf_base::{Memory, Steps, Text};
 use lf_model::{
     Doc, Embed, Frame, FrameKind, FrameNode, FrameNodeList, FrameProp, FramePropList,
@@ -69,14 +69,6 @@ fn patch(alloc: Global, text: &str) -> Result<Patch, Memory> {
     }
 }
 
-// The version after the patch of a text.
-fn after(alloc: Global, version: &Version, text: &str) -> Result<Version, Memory> {
-    match version.commit(alloc, 1, patch(alloc, text)?) {
-        Ok(next) => Ok(next),
-        Err(_) => Err(Memory),
-    }
-}
-
 const SHARED: &str =
     "<http://e/a> <http://e/p> _:x .\n<http://e/b> <http://e/p> _:x .\n_:x <http://e/q> \"1\" .\n";
 
@@ -99,6 +91,24 @@ fn has_text(board: &Board, text: &str) -> bool {
     }
 }
 
+// Turns a board to a version, and says whether it then has this document and evaluated so many terms.
+fn turns_to<L: Ledger>(
+    alloc: Global,
+    board: &mut Board,
+    to: &Version,
+    text: &str,
+    count: u64,
+    steps: &mut Steps<L>,
+) -> Result<bool, Memory>
+    requires begun { MayTurn board.old to.now }
+    ensures turned { OnOk result (board.new ≡ turned board.old.frame to.now) }
+{
+    let turn = board.turn(alloc, to, steps)?;
+    let counted = turn.evaluated.len() == count;
+    drop(turn);
+    Ok(counted && has_text(board, text))
+}
+
 // Turns a board to two versions, the second after the first.
 fn turn_twice<L: Ledger>(
     alloc: Global,
@@ -110,42 +120,94 @@ fn turn_twice<L: Ledger>(
     requires first { MayTurn board.old one.now }
     requires second { IsPrefix (lines_of one.now) (lines_of two.now) }
 {
-    let first = board.turn(alloc, one, steps)?;
-    let shared = has_text(board, SHARED_DOCUMENT) && first.evaluated.len() == 3;
-    let second = board.turn(alloc, two, steps)?;
-    Ok(shared && has_text(board, PRUNED_DOCUMENT) && second.evaluated.len() == 2)
+    let shared = turns_to(alloc, board, one, SHARED_DOCUMENT, 3, steps)?;
+    let pruned = turns_to(alloc, board, two, PRUNED_DOCUMENT, 2, steps)?;
+    Ok(shared && pruned)
 }
 
-// The two versions of the row, and a board that is turned to each.
-fn shared_blank<L: Ledger>(alloc: Global, first: &Version, blank: Blank) -> Result<bool, Memory>
-    requires name { blank.name ≡ L.name }
-    requires parts { blank.parts ≡ L.parts }
-    requires one { 0 < blank.parts }
+// Whether a board at home that was turned to the second version wakes with the row's last document.
+fn is_woken(home: HomeBoard) -> Result<bool, Memory> {
+    match home.handle() {
+        Ok(handle) => {
+            let board = Board::wake(home, handle);
+            let woken = board.version() == Some(2) && has_text(&board, PRUNED_DOCUMENT);
+            drop(board);
+            Ok(woken)
+        }
+        Err(Memory) => {
+            drop(home);
+            Err(Memory)
+        }
+    }
+}
+
+// A board of the row's frame that is turned to both versions.
+fn turned_to_both<L: Ledger>(
+    alloc: Global,
+    one: &Version,
+    two: &Version,
+    steps: &mut Steps<L>,
+) -> Result<bool, Memory>
+    requires second { IsPrefix (lines_of one.now) (lines_of two.now) }
 {
-    let mut steps = Steps::<L>::of(blank);
-    let one = after(alloc, first, SHARED)?;
+    let mut board = Board::new(frame(alloc)?);
+    let held = turn_twice(alloc, &mut board, one, two, steps);
+    let (home, handle) = board.rest();
+    drop(handle);
+    let woken = is_woken(home);
+    Ok(held? && woken?)
+}
+
+// The second version behind the first.
+fn of_second<L: Ledger>(
+    alloc: Global,
+    one: &Version,
+    steps: &mut Steps<L>,
+) -> Result<bool, Memory> {
     let patch = patch(alloc, ONE_LESS)?;
     match one.commit(alloc, 1, patch) {
         Ok(two) => {
-            let mut board = Board::new(frame(alloc)?);
-            may_move(&board);
-            let held = turn_twice(alloc, &mut board, &one, &two, &mut steps);
-            drop(board);
+            let held = turned_to_both(alloc, one, &two, steps);
+            drop(two);
             held
         }
         Err(_) => Err(Memory),
     }
 }
 
-fn may_move<T: Send>(_: &T) {}
+// The two versions of the row, and a board that is turned to each.
+fn of_first<L: Ledger>(
+    alloc: Global,
+    none: &Version,
+    steps: &mut Steps<L>,
+) -> Result<bool, Memory> {
+    let patch = patch(alloc, SHARED)?;
+    match none.commit(alloc, 1, patch) {
+        Ok(one) => {
+            let held = of_second(alloc, &one, steps);
+            drop(one);
+            held
+        }
+        Err(_) => Err(Memory),
+    }
+}
+
+// The same, with steps that are counted from nothing.
+fn shared_blank<L: Ledger>(alloc: Global, none: &Version, blank: Blank) -> Result<bool, Memory>
+    requires name { blank.name ≡ L.name }
+    requires parts { blank.parts ≡ L.parts }
+    requires one { 0 < blank.parts }
+{
+    let mut steps = Steps::<L>::of(blank);
+    of_first(alloc, none, &mut steps)
+}
 
 #[test]
 fn a_board_goes_from_version_to_version(rt: HostRuntime) -> Result<(), Fail> {
     let alloc = rt.alloc();
-    let first = Version::first(alloc)?;
-    may_move(&first);
-    let held = shared_blank::<Brand>(alloc, &first, Blank::new(1));
-    drop(first);
+    let none = Version::first(alloc)?;
+    let held = shared_blank::<Brand>(alloc, &none, Blank::new(1));
+    drop(none);
     assert!(rt; held?);
     Ok(())
 }

@@ -11,7 +11,7 @@ use Rattle.lf_rdf.specs.declared.question.GraphRef.TheVariants as graph
 use Rattle.lf_rdf.specs.Equality.{term_eq, quad_eq}
 use Rattle.def_datasets.specs.Sorted.{has, without, put_all, set_of}
 use Rattle.def_datasets.specs.Order.{quad_cmp, id_cmp}
-use Rattle.def_datasets.specs.Dataset.{holds, dataset_of, deletions, with_quad}
+use Rattle.def_datasets.specs.Dataset.{holds, dataset_of, additions, deletions, with_quad}
 use Rattle.def_datasets.specs.Terms.{is_node, lies_in, label_terms, terms}
 use Rattle.def_datasets.specs.Questions.{named}
 use Rattle.def_datasets.proofs.SortedLaws.{IsStrict, has-put, has-filter}
@@ -47,6 +47,15 @@ deleted_step line rest made next e = ap (λ (w : List Quad). without quad_eq w (
     go true = refl
     go false = without_more line.quad (deletions rest) made
 
+pub added_step : (line : Signed) (rest : List Signed) (made next : List Quad) → next ≡ cond line.add (with_quad line.quad made) made
+    → put_all quad_cmp next (additions rest) ≡ put_all quad_cmp made (additions (line ∷ rest))
+added_step line rest made next e = ap (λ (w : List Quad). put_all quad_cmp w (additions rest)) e ∙ go line.add
+  where
+    go : (add : Bool) → put_all quad_cmp (cond add (with_quad line.quad made) made) (additions rest)
+        ≡ put_all quad_cmp made (cond add (line.quad ∷ additions rest) (additions rest))
+    go true = refl
+    go false = refl
+
 -- ---- terms
 
 -- the nodes of the quads in an order are the terms of the dataset
@@ -64,13 +73,18 @@ terms_told es =
 -- ---- the first quads
 
 module _ {A : Type 0} {same : A → A → Bool} {cmp : A → A → Ordering} (o : IsStrict same cmp) where
+  -- what has the members of a list has those of another that has them too
+  pub by_members_of : (ks sorted from adds : List A) → ks ≡ sorted
+      → ((test : A → Bool) → ((x y : A) → is_eq (cmp x y) ≡ true → test x ≡ test y) → list_any test sorted ≡ list_any test from)
+      → ((z : A) → has same from z ≡ has same adds z) → (z : A) → has same ks z ≡ has same adds z
+  by_members_of ks sorted from adds one alike two z =
+      ap (list_any (same z)) one ∙ (alike (same z) (λ x y tie. ap (same z) (o.tells x y (equal_from (cmp x y) tie))) ∙ two z)
+
   -- what has the members of a list that is another
   pub by_members : (ks sorted from adds : List A) → ks ≡ sorted
       → ((test : A → Bool) → ((x y : A) → is_eq (cmp x y) ≡ true → test x ≡ test y) → list_any test sorted ≡ list_any test from) → from ≡ adds
       → (z : A) → has same ks z ≡ has same adds z
-  by_members ks sorted from adds one alike two z =
-      ap (list_any (same z)) one
-      ∙ (alike (same z) (λ x y tie. ap (same z) (o.tells x y (equal_from (cmp x y) tie))) ∙ ap (list_any (same z)) two)
+  by_members ks sorted from adds one alike two = by_members_of ks sorted from adds one alike (λ z. ap (list_any (same z)) two)
 
 or_none : (a b : Bool) → a ≡ false → b ≡ false → (a || b) ≡ false
 or_none true b e f = absurd (true≢false e)

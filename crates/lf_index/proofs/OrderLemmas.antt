@@ -1,7 +1,8 @@
 -- What the orders of terms and quads tell.
-use Rattle.std.proofs.Common.{◌≡◌, refl, ap, ◌∙◌, Option, Some, None, Ordering, Less, Equal, Greater}
-use Rattle.std.specs.Ordering.{ordering_then, nat_cmp, bool_cmp}
+use Rattle.std.proofs.Common.{◌≡◌, ◌↔◌, Bool, true, false, IsTrue, refl, sym, ap, ◌∙◌, Option, Some, None, Ordering, Less, Equal, Greater}
+use Rattle.std.specs.Ordering.{ordering_then, nat_cmp, bool_cmp, eq_by_cmp}
 use Rattle.std.specs.Cmp.{bool_cmp_total, tied_itself}
+use Rattle.std.proofs.lemmas.Cmp.{lists_total, nat_list_cmp_total}
 use Rattle.lf_rdf.specs.Vocabulary.{rdf_type}
 use Rattle.lf_rdf.specs.declared.term.Term.{Term}
 use Rattle.lf_rdf.specs.declared.quad.Quad.{Quad}
@@ -10,6 +11,7 @@ use Rattle.def_datasets.specs.Order.{parts_cmp, term_parts}
 use Rattle.def_datasets.specs.Terms.{is_iri, tells_type}
 use Rattle.def_datasets.proofs.SortedLaws.{IsStrict}
 use Rattle.def_datasets.proofs.OrderLaws.{then_second, parts_tell, term_from_parts, term_decides, quad_decides}
+use Rattle.lf_order.proofs.SetLemmas.{same_ties}
 use Rattle.lf_order.proofs.Ties.{then_first}
 use Rattle.lf_index.specs.Numbers.{number_of}
 use Rattle.lf_index.specs.Orders.{term_order, label_order, subjects, predicates, objects, graphs, kinds, subject_order, object_order, graph_order}
@@ -21,6 +23,10 @@ then_assoc Equal s t = refl
 then_assoc Greater s t = refl
 
 -- ---- ties
+
+-- equal terms have equal parts
+pub parts_tie : (s t : Term) → s ≡ t → Equal ≡ parts_cmp (term_parts s) (term_parts t)
+parts_tie s t e = sym (ap (λ (w : Term). parts_cmp (term_parts s) (term_parts w)) (sym e) ∙ tied_itself (lists_total nat_list_cmp_total) (term_parts s))
 
 pub term_tells : (s t : Term) → term_order s t ≡ Equal → s ≡ t
 term_tells s t e =
@@ -48,6 +54,16 @@ kinds_tie q r e = ap (λ (t : Term). bool_cmp (is_iri rdf_type t) (tells_type r)
 
 pub term_strictly : IsStrict term_eq term_order
 term_strictly = record { total = term_total; tells = term_tells; decides = term_decides }
+
+both_ways : (b c : Bool) → (b ≡ true → c ≡ true) → (c ≡ true → b ≡ true) → b ≡ c
+both_ways true c f g = sym (f refl)
+both_ways false true f g = g refl
+both_ways false false f g = refl
+
+-- what tells whether two quads are one tells whether an order ties them
+pub ties_told : {cmp : Quad → Quad → Ordering} (o : IsStrict quad_eq cmp) (b : Bool) (x y : Quad) → IsTrue b ↔ (x ≡ y) → b ≡ eq_by_cmp cmp x y
+ties_told o b x y is =
+    both_ways b (quad_eq x y) (λ e. (o.decides x y).1 (is.0 e)) (λ e. is.1 ((o.decides x y).0 e)) ∙ same_ties o x y
 
 pub subject_strictly : IsStrict quad_eq subject_order
 subject_strictly =

@@ -1,11 +1,16 @@
 -- What comes of a patch.
-use Rattle.std.specs.Prelude.{◌≡◌, ◌<◌, ◌≤◌, List, length, ⊤}
+use Rattle.std.specs.Prelude.{◌≡◌, ◌<◌, ◌≤◌, List, length, Option, Some, None, ⊤}
 use Rattle.lf_rdf.specs.declared.quad.Quad.{Quad}
 use Rattle.lf_rdf.specs.declared.quad.Signed.{Signed}
 use Rattle.def_datasets.specs.Dataset.{after}
 use Rattle.def_histories.specs.Legal.{most_quads}
 use Rattle.lf_index.specs.declared.error.ApplyErr.{ApplyErr}
 use Rattle.lf_index.specs.declared.error.ApplyErr.TheVariants.{TooManyQuads, Memory}
+
+-- what was made last, or the old quads while nothing is
+abbrev pub latest : Option (List Quad) → List Quad → List Quad
+latest None old = old
+latest (Some made) old = made
 
 -- the dataset after the patch, which has no more quads than a version may have
 pub record IsApplied (dataset : List Quad) (lines : List Signed) (made : List Quad) : Type 0 where

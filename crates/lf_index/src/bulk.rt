@@ -1,8 +1,9 @@
 //! The first quads of an index, whose orders are sorted at once.
-ghost use Rattle.std.specs.Prelude.{◌≡◌, IfOk, map};
+ghost use Rattle.std.specs.Prelude.{◌≡◌, Bool, IfOk, map};
 ghost use Rattle.std.specs.Arc.{arc_value};
-ghost use Rattle.std.specs.List.{flat_map};
+ghost use Rattle.std.specs.List.{flat_map, list_any};
 ghost use Rattle.std.specs.List.Sorted.{IsStrictlySortedBy};
+ghost use Rattle.lf_rdf.specs.declared.quad.Quad.{Quad};
 ghost use Rattle.def_datasets.specs.Dataset.{additions, dataset_of};
 ghost use Rattle.def_datasets.specs.Terms.{label_terms};
 ghost use Rattle.lf_ptree.specs.Pairs.{keys};
@@ -26,13 +27,16 @@ pub fn index_of_added(alloc: Global, lines: &[Signed]) -> Result<Index, Memory>
     ensures { IfOk result (λ index. index ≡ dataset_of (additions lines.now)) }
 {
     let rows = rows_added(alloc, lines)?;
-    let subjects = sorted_set(keys_by_subject(alloc, rows.as_slice())?)?;
+    let names = sorted_set(labels(alloc, rows.as_slice())?)?;
+    let subjects = sorted_set(keys_by_subject(alloc, rows)?)?;
+    let objects = sorted_set(by_numbers(keys_by_object(alloc, subjects.as_slice())?)?)?;
+    let graphs = sorted_set(keys_by_graph(alloc, subjects.as_slice())?)?;
     let count = subjects.len() as u64;
     Ok(Index {
         by_subject: set_of_keys(alloc, subjects)?,
-        by_object: set_of_keys(alloc, sorted_set(keys_by_object(alloc, rows.as_slice())?)?)?,
-        by_graph: set_of_keys(alloc, sorted_set(keys_by_graph(alloc, rows.as_slice())?)?)?,
-        names: set_of_keys(alloc, sorted_set(labels(alloc, rows.as_slice())?)?)?,
+        by_object: set_of_keys(alloc, objects)?,
+        by_graph: set_of_keys(alloc, graphs)?,
+        names: set_of_keys(alloc, names)?,
         count,
     })
 }
@@ -52,32 +56,43 @@ fn rows_added(alloc: Global, lines: &[Signed]) -> Result<Vec<Arc<Row>>, Memory>
     Ok(rows)
 }
 
-fn keys_by_subject(alloc: Global, rows: &[Arc<Row>]) -> Result<Vec<BySubject>, Memory>
-    ensures { IfOk result (λ keys. keys.items ≡ map arc_value rows.now) }
+fn keys_by_subject(alloc: Global, rows: Vec<Arc<Row>>) -> Result<Vec<BySubject>, Memory>
+    ensures { IfOk result (λ keys. keys.items ≡ map arc_value rows.items) }
 {
     let mut keys = Vec::with_capacity(alloc, rows.len())?;
     for row in rows {
-        keys.push(BySubject::of(Arc::try_clone(row)?))?;
+        keys.push(BySubject::of(row))?;
     }
     Ok(keys)
 }
 
-fn keys_by_object(alloc: Global, rows: &[Arc<Row>]) -> Result<Vec<ByObject>, Memory>
-    ensures { IfOk result (λ keys. keys.items ≡ map arc_value rows.now) }
+fn keys_by_object(alloc: Global, subjects: &[BySubject]) -> Result<Vec<ByObject>, Memory>
+    ensures { IfOk result (λ keys. keys.items ≡ subjects.now) }
 {
-    let mut keys = Vec::with_capacity(alloc, rows.len())?;
-    for row in rows {
-        keys.push(ByObject::of(Arc::try_clone(row)?))?;
+    let mut keys = Vec::with_capacity(alloc, subjects.len())?;
+    for key in subjects {
+        keys.push(ByObject::of(key.handle()?))?;
     }
     Ok(keys)
 }
 
-fn keys_by_graph(alloc: Global, rows: &[Arc<Row>]) -> Result<Vec<ByGraph>, Memory>
-    ensures { IfOk result (λ keys. keys.items ≡ map arc_value rows.now) }
+// Keys that come in order of subjects, nearly in order of objects. A sort reads the texts of all that it compares whose objects
+// have one number, and many quads may have one object; behind this one it only goes over the keys.
+fn by_numbers(keys: Vec<ByObject>) -> Result<Vec<ByObject>, Memory>
+    ensures { IfOk result (λ made. (test : Quad → Bool) → list_any test made.items ≡ list_any test keys.items) }
 {
-    let mut keys = Vec::with_capacity(alloc, rows.len())?;
-    for row in rows {
-        keys.push(ByGraph::of(Arc::try_clone(row)?))?;
+    let mut made = keys;
+    made.sort_by(|one, two| one.order_by_numbers(two))?;
+    Ok(made)
+}
+
+// Keys that come in order of subjects. In each graph they stand so already, and a sort finds this out by going over them.
+fn keys_by_graph(alloc: Global, subjects: &[BySubject]) -> Result<Vec<ByGraph>, Memory>
+    ensures { IfOk result (λ keys. keys.items ≡ subjects.now) }
+{
+    let mut keys = Vec::with_capacity(alloc, subjects.len())?;
+    for key in subjects {
+        keys.push(ByGraph::of(key.handle()?))?;
     }
     Ok(keys)
 }

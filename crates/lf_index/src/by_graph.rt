@@ -4,6 +4,7 @@ ghost use Rattle.std.specs.Arc.{arc_value};
 
 use crate::row::Row;
 use crate::scan::Keyed;
+use lf_base::Same;
 use std::cmp::Ordering;
 use std::marker::Model;
 use std::sync::Arc;
@@ -51,7 +52,7 @@ impl PartialEq for ByGraph {
     ghost laws = { partial_equiv_from_equiv graph_equivalence };
 
     fn eq(&self, other: &ByGraph) -> bool {
-        self.cmp(other).is_eq()
+        self.row.is(&other.row)
     }
 }
 

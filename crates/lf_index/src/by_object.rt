@@ -4,6 +4,7 @@ ghost use Rattle.std.specs.Arc.{arc_value};
 
 use crate::row::Row;
 use crate::scan::Keyed;
+use lf_base::Same;
 use std::cmp::Ordering;
 use std::marker::Model;
 use std::sync::Arc;
@@ -11,16 +12,22 @@ use std::sync::Arc;
 /// A row that stands by its object first.
 #[derive(Drop)]
 pub struct ByObject {
+    /// The number of the row's object, by which most comparisons are decided without a look at the row.
+    number: u64,
     row: Arc<Row>,
 }
 
 impl Model for ByObject {
     ghost use Rattle.std.specs.Arc.{arc_value};
+    ghost use Rattle.std.specs.Prelude.{◌≡◌};
     ghost use Rattle.lf_rdf.specs.declared.quad.Quad.{Quad};
+    ghost use Rattle.lf_index.specs.Numbers.{number_of};
 
     ghost Value = { Quad };
 
     ghost view = { λ k. arc_value k.row };
+
+    ghost invariant = { λ k. k.number ≡ number_of (arc_value k.row).object };
 }
 
 impl ByObject {
@@ -28,7 +35,18 @@ impl ByObject {
     pub fn of(row: Arc<Row>) -> ByObject
         ensures { result ≡ arc_value row }
     {
-        ByObject { row }
+        let number = row.object.number();
+        ByObject { number, row }
+    }
+
+    /// How two keys stand by the numbers of their objects and predicates. It reads no text, and decides most of their order.
+    pub fn order_by_numbers(&self, other: &ByObject) -> Ordering {
+        self.number.cmp(&other.number).then_with(|| {
+            self.row
+                .predicate
+                .number()
+                .cmp(&other.row.predicate.number())
+        })
     }
 }
 
@@ -51,7 +69,7 @@ impl PartialEq for ByObject {
     ghost laws = { partial_equiv_from_equiv object_equivalence };
 
     fn eq(&self, other: &ByObject) -> bool {
-        self.cmp(other).is_eq()
+        self.row.is(&other.row)
     }
 }
 
@@ -90,6 +108,10 @@ impl Ord for ByObject {
     ghost matches_eq = { λ x y. refl };
 
     fn cmp(&self, other: &ByObject) -> Ordering {
-        self.row.object_order(&other.row)
+        match self.number.cmp(&other.number) {
+            Ordering::Less => Ordering::Less,
+            Ordering::Equal => self.row.object_order(&other.row),
+            Ordering::Greater => Ordering::Greater,
+        }
     }
 }

@@ -1,9 +1,10 @@
 //! Rows in order of subject, graph, predicate and object.
-ghost use Rattle.std.specs.Prelude.{◌≡◌};
+ghost use Rattle.std.specs.Prelude.{◌≡◌, IfOk};
 ghost use Rattle.std.specs.Arc.{arc_value};
 
 use crate::row::Row;
 use crate::scan::Keyed;
+use lf_base::{Memory, Same};
 use std::cmp::Ordering;
 use std::marker::Model;
 use std::sync::Arc;
@@ -11,16 +12,22 @@ use std::sync::Arc;
 /// A row that stands by its subject first.
 #[derive(Drop)]
 pub struct BySubject {
+    /// The number of the row's subject, by which most comparisons are decided without a look at the row.
+    number: u64,
     row: Arc<Row>,
 }
 
 impl Model for BySubject {
     ghost use Rattle.std.specs.Arc.{arc_value};
+    ghost use Rattle.std.specs.Prelude.{◌≡◌};
     ghost use Rattle.lf_rdf.specs.declared.quad.Quad.{Quad};
+    ghost use Rattle.lf_index.specs.Numbers.{number_of};
 
     ghost Value = { Quad };
 
     ghost view = { λ k. arc_value k.row };
+
+    ghost invariant = { λ k. k.number ≡ number_of (arc_value k.row).subject };
 }
 
 impl BySubject {
@@ -28,7 +35,15 @@ impl BySubject {
     pub fn of(row: Arc<Row>) -> BySubject
         ensures { result ≡ arc_value row }
     {
-        BySubject { row }
+        let number = row.subject.number();
+        BySubject { number, row }
+    }
+
+    /// A handle of the row.
+    pub fn handle(&self) -> Result<Arc<Row>, Memory>
+        ensures { IfOk result (λ row. arc_value row ≡ self.now) }
+    {
+        Ok(Arc::try_clone(&self.row)?)
     }
 }
 
@@ -51,7 +66,7 @@ impl PartialEq for BySubject {
     ghost laws = { partial_equiv_from_equiv subject_equivalence };
 
     fn eq(&self, other: &BySubject) -> bool {
-        self.cmp(other).is_eq()
+        self.row.is(&other.row)
     }
 }
 
@@ -90,6 +105,10 @@ impl Ord for BySubject {
     ghost matches_eq = { λ x y. refl };
 
     fn cmp(&self, other: &BySubject) -> Ordering {
-        self.row.subject_order(&other.row)
+        match self.number.cmp(&other.number) {
+            Ordering::Less => Ordering::Less,
+            Ordering::Equal => self.row.subject_order(&other.row),
+            Ordering::Greater => Ordering::Greater,
+        }
     }
 }

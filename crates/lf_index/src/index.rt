@@ -3,6 +3,7 @@ ghost use Rattle.std.specs.Prelude.{◌≡◌, [], ◌∷◌, true, false, lengt
 ghost use Rattle.lf_rdf.specs.Equality.{quad_eq};
 ghost use Rattle.def_datasets.specs.Sorted.{without};
 ghost use Rattle.def_datasets.specs.Dataset.{holds, is_dataset, with_quad};
+ghost use Rattle.lf_index.specs.Applied.{latest};
 
 use crate::by_graph::ByGraph;
 use crate::by_object::ByObject;
@@ -92,16 +93,16 @@ impl Index {
         self.by_subject.get(key).is_some()
     }
 
-    /// The index with a quad more.
-    pub(crate) fn with(&self, alloc: Global, quad: &Quad) -> Result<Index, Memory>
-        ensures { IfOk result (λ index. index ≡ with_quad quad.now self.now) }
+    /// The index with a quad more; none where the quad is there.
+    pub(crate) fn with(&self, alloc: Global, quad: &Quad) -> Result<Option<Index>, Memory>
+        ensures { IfOk result (λ made. latest made self.now ≡ with_quad quad.now self.now) }
     {
         self.is_dataset();
         let keys = keys_of(alloc, quad)?;
         if self.has(&keys.subject) {
-            return self.share(alloc);
+            return Ok(None);
         }
-        self.with_new(alloc, keys)
+        Ok(Some(self.with_new(alloc, keys)?))
     }
 
     // The index with a quad more, which isn't there.
@@ -129,16 +130,16 @@ impl Index {
         })
     }
 
-    /// The index without a quad.
-    pub(crate) fn without(&self, alloc: Global, quad: &Quad) -> Result<Index, Memory>
-        ensures { IfOk result (λ index. index ≡ without quad_eq self.now (quad.now ∷ [])) }
+    /// The index without a quad; none where the quad isn't there.
+    pub(crate) fn without(&self, alloc: Global, quad: &Quad) -> Result<Option<Index>, Memory>
+        ensures { IfOk result (λ made. latest made self.now ≡ without quad_eq self.now (quad.now ∷ [])) }
     {
         self.is_dataset();
         let keys = keys_of(alloc, quad)?;
         if !self.has(&keys.subject) {
-            return self.share(alloc);
+            return Ok(None);
         }
-        self.without_old(alloc, &keys)
+        Ok(Some(self.without_old(alloc, &keys)?))
     }
 
     // The index without a quad that is there.

@@ -34,13 +34,14 @@ impl Recent {
         if count == 0 {
             return Shared::of(alloc, term);
         }
-        let place = (number_of(term) % count) as usize;
+        let number = number_of(term);
+        let place = (number % count) as usize;
         if let Some(last) = &self.slots[place] {
-            if last.term().is(term) {
+            if last.number() == number && last.term().is(term) {
                 return last.share();
             }
         }
-        let made = Shared::of(alloc, term)?;
+        let made = Shared::numbered(alloc, term, number)?;
         self.slots[place] = Some(made.share()?);
         Ok(made)
     }

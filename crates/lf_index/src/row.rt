@@ -1,12 +1,12 @@
 //! The four shared terms of a quad, and how two rows stand in each order.
-ghost use Rattle.std.specs.Prelude.{◌≡◌, IfOk};
+ghost use Rattle.std.specs.Prelude.{◌≡◌, IfOk, IsTrue};
 ghost use Rattle.std.specs.Option.{option_copied};
 ghost use Rattle.lf_index.specs.Orders.{graph_order, kinds, object_order, subject_order};
 
 use crate::reach::tells_type;
 use crate::recent::Recent;
 use crate::shared::{Shared, label_order};
-use lf_base::{Memory, TryCopy};
+use lf_base::{Memory, Same, TryCopy};
 use lf_rdf::{Quad, Term};
 use std::alloc::Global;
 use std::cmp::Ordering;
@@ -98,6 +98,25 @@ impl Row {
             .then_with(|| self.predicate.order(&other.predicate))
             .then_with(|| self.object.order(&other.object))
     }
+}
+
+impl Same for Row {
+    fn is(&self, other: &Row) -> bool {
+        numbers_agree(self, other)
+            && self.subject.is(&other.subject)
+            && self.predicate.is(&other.predicate)
+            && self.object.is(&other.object)
+            && self.graph.is(&other.graph)
+    }
+}
+
+// Whether the numbers of the terms of two rows agree, as those of equal rows do. It reads no text.
+fn numbers_agree(one: &Row, two: &Row) -> bool
+    ensures { one.now ≡ two.now → IsTrue result }
+{
+    one.object.number() == two.object.number()
+        && one.predicate.number() == two.predicate.number()
+        && one.subject.number() == two.subject.number()
 }
 
 // How two rows stand by whether they tell a type: those that don't come first.

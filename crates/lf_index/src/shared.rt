@@ -1,10 +1,11 @@
 //! Terms that the rows of all versions share, each with a number by which most comparisons are decided.
 ghost use Rattle.std.specs.Prelude.{◌≡◌, ◌<◌, [], IfOk};
 ghost use Rattle.lf_rdf.specs.declared.term.Term.TheVariants.{Iri};
+ghost use Rattle.def_datasets.specs.Order.{parts_cmp, term_parts};
 ghost use Rattle.lf_index.specs.Numbers.{mixed, number_of};
 ghost use Rattle.lf_index.specs.Orders.{label_order, term_order};
 
-use lf_base::{Memory, Text, TryCopy};
+use lf_base::{Memory, Same, Text, TryCopy};
 use lf_order::by_parts;
 use lf_rdf::Term;
 use std::alloc::Global;
@@ -21,6 +22,7 @@ const MODULUS: u64 = 4294967296;
 /// A handle of a term, with its number. A copy costs a count.
 #[derive(Drop)]
 pub struct Shared {
+    /// The FNV hash of the term's first text, 32 bits long.
     number: u64,
     term: Arc<Term>,
 }
@@ -43,10 +45,25 @@ impl Shared {
     pub fn of(alloc: Global, term: &Term) -> Result<Shared, Memory>
         ensures { IfOk result (λ shared. shared ≡ term.now) }
     {
+        Shared::numbered(alloc, term, number_of(term))
+    }
+
+    /// A handle of a new copy of a term, whose number is known.
+    pub fn numbered(alloc: Global, term: &Term, number: u64) -> Result<Shared, Memory>
+        requires { number ≡ number_of term.now }
+        ensures { IfOk result (λ shared. shared ≡ term.now) }
+    {
         Ok(Shared {
-            number: number_of(term),
+            number,
             term: Arc::new(alloc, term.copy(alloc)?)?,
         })
+    }
+
+    /// The number of the term.
+    pub fn number(&self) -> u64
+        ensures { result ≡ number_of self.now }
+    {
+        self.number
     }
 
     /// The same term.
@@ -72,7 +89,24 @@ impl Shared {
     {
         self.number
             .cmp(&other.number)
-            .then_with(|| by_parts(&self.term, &other.term))
+            .then_with(|| by_texts(&self.term, &other.term))
+    }
+}
+
+// How two terms of one number stand by their parts. Mostly they are equal, and equality takes less time than order.
+#[tactic(auto, using(crate::proofs::OrderLemmas::parts_tie))]
+fn by_texts(one: &Term, two: &Term) -> Ordering
+    ensures { result ≡ parts_cmp (term_parts one.now) (term_parts two.now) }
+{
+    if one.is(two) {
+        return Ordering::Equal;
+    }
+    by_parts(one, two)
+}
+
+impl Same for Shared {
+    fn is(&self, other: &Shared) -> bool {
+        self.number == other.number && self.term.is(&other.term)
     }
 }
 

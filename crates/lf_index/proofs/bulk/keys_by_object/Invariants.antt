@@ -1,6 +1,5 @@
-use Rattle.std.proofs.Common.{◌≡◌, map, take}
-use Rattle.std.specs.Arc.{arc_value}
+use Rattle.std.proofs.Common.{◌≡◌, take}
 use Rattle.lf_index.proofs.bulk.keys_by_object.Given as goal
 
-abbrev pub invariant-loop-row : goal.invariant-loop-row
-invariant-loop-row l = l.keys.items ≡ map arc_value (take l.row-index l.rows)
+abbrev pub invariant-loop-key : goal.invariant-loop-key
+invariant-loop-key l = l.keys.items ≡ take l.key-index l.subjects

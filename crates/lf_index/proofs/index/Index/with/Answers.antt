@@ -1,6 +1,5 @@
-use Rattle.std.proofs.Common.{◌≡◌, sym, ◌∙◌, rules, true}
+use Rattle.std.proofs.Common.{◌≡◌, sym, rules, true}
 use Rattle.def_datasets.specs.Dataset.{holds}
-use Rattle.std.proofs.lemmas.Result.{IfOk-weaker}
 use Rattle.lf_index.proofs.IndexLemmas.{put_present}
 use Rattle.lf_index.proofs.index.Index.with.Goals as goal
 
@@ -8,4 +7,4 @@ pub returns-then-has : goal.returns-then-has
 returns-then-has c =
     let now = c.args.self.now in
     let here : holds now c.args.quad.now ≡ true = search rules in
-    IfOk-weaker c.share.result _ _ (λ index e. e ∙ sym (put_present c.args.quad.now now c.is_dataset.ensures here)) c.share.ensures
+    sym (put_present c.args.quad.now now c.is_dataset.ensures here)

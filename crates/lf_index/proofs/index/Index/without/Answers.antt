@@ -1,6 +1,5 @@
-use Rattle.std.proofs.Common.{◌≡◌, sym, ◌∙◌, rules, false}
+use Rattle.std.proofs.Common.{◌≡◌, sym, rules, false}
 use Rattle.def_datasets.specs.Dataset.{holds}
-use Rattle.std.proofs.lemmas.Result.{IfOk-weaker}
 use Rattle.lf_index.proofs.IndexLemmas.{without_absent}
 use Rattle.lf_index.proofs.index.Index.without.Goals as goal
 
@@ -8,4 +7,4 @@ pub returns-then-not-has : goal.returns-then-not-has
 returns-then-not-has c =
     let now = c.args.self.now in
     let out : holds now c.args.quad.now ≡ false = search rules in
-    IfOk-weaker c.share.result _ _ (λ index e. e ∙ sym (without_absent c.args.quad.now now c.is_dataset.ensures out)) c.share.ensures
+    sym (without_absent c.args.quad.now now c.is_dataset.ensures out)

@@ -5,3 +5,4 @@ pub mod Reach
 pub mod Low
 pub mod Indexed
 pub mod Applied
+pub mod Near

@@ -19,11 +19,11 @@ use crate::index::Index;
 use crate::lined::in_line_order;
 use crate::low::{lowest_graph, lowest_object, lowest_subject};
 use crate::names::put_names;
+use crate::nodes::each_in_id_order;
 use crate::reach::label_in;
 use crate::scan::{nodes_reached, quads_reached};
 use crate::shared::{Shared, least};
 use lf_base::Memory;
-use lf_order::in_id_order;
 use lf_ptree::PMap;
 use lf_rdf::{Answer, GraphRef, QuadList, Question, Term, TermList};
 use std::alloc::Global;
@@ -135,6 +135,6 @@ fn members_of(
     by_graph.ascends();
     let low = lowest_graph(alloc, label_in(graph))?;
     let mut found = nodes_reached(alloc, by_graph.from(&low), question)?;
-    put_names(alloc, &mut found, names, graph)?;
-    in_id_order(alloc, found)
+    put_names(&mut found, names, graph)?;
+    each_in_id_order(alloc, found)
 }

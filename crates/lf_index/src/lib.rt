@@ -15,6 +15,8 @@ mod lined;
 mod lines;
 mod low;
 mod names;
+mod near;
+mod nodes;
 mod parts;
 mod reach;
 mod recent;

@@ -12,7 +12,6 @@ use crate::row::Row;
 use crate::scan::Keyed;
 use crate::shared::Shared;
 use lf_base::{Memory, Same};
-use lf_order::ById;
 use lf_ptree::PMap;
 use lf_rdf::{GraphRef, Term};
 use std::alloc::Global;
@@ -76,29 +75,24 @@ fn has_label(row: &Row, name: &Term) -> bool
 
 /// The names that belong to a graph, behind other terms.
 pub fn put_names(
-    alloc: Global,
-    found: &mut Vec<ById>,
+    found: &mut Vec<Shared>,
     names: &PMap<Shared, ()>,
     graph: &GraphRef,
 ) -> Result<(), Memory>
     ensures { OnOk result (found.new.items ≡ found.old.items ++ names_for graph.now (keys names.now)) }
 {
     match graph {
-        GraphRef::Default => put_all_names(alloc, found, names),
+        GraphRef::Default => put_all_names(found, names),
         GraphRef::Named(_) => Ok(()),
-        GraphRef::Merged => put_all_names(alloc, found, names),
+        GraphRef::Merged => put_all_names(found, names),
     }
 }
 
-fn put_all_names(
-    alloc: Global,
-    found: &mut Vec<ById>,
-    names: &PMap<Shared, ()>,
-) -> Result<(), Memory>
+fn put_all_names(found: &mut Vec<Shared>, names: &PMap<Shared, ()>) -> Result<(), Memory>
     ensures { OnOk result (found.new.items ≡ found.old.items ++ keys names.now) }
 {
     for pair in names.iter() {
-        found.push(ById::of(alloc, pair.0.term())?)?;
+        found.push(pair.0.share()?)?;
     }
     Ok(())
 }

@@ -5,10 +5,11 @@ ghost use Rattle.lf_ptree.specs.Ranges.{pairs_left};
 ghost use Rattle.lf_index.specs.Reach.{nodes_reached, reached};
 
 use crate::lined::Lined;
+use crate::nodes::put_node;
 use crate::reach::{reaches, tells_type};
 use crate::row::Row;
+use crate::shared::Shared;
 use lf_base::Memory;
-use lf_order::{ById, put_node};
 use lf_ptree::Pairs;
 use lf_rdf::Question;
 use std::alloc::Global;
@@ -49,7 +50,7 @@ pub fn nodes_reached<K: Keyed>(
     alloc: Global,
     pairs: Pairs<'_, K, ()>,
     question: &Question,
-) -> Result<Vec<ById>, Memory>
+) -> Result<Vec<Shared>, Memory>
     ensures { IfOk result (λ found. found.items ≡ nodes_reached question.now (map (λ e. K.quad e.0) (pairs_left pairs.entry))) }
 {
     let mut found = Vec::new(alloc);
@@ -58,18 +59,18 @@ pub fn nodes_reached<K: Keyed>(
         if !reaches(question, row) {
             return Ok(found);
         }
-        put_nodes(alloc, &mut found, row)?;
+        put_nodes(&mut found, row)?;
     }
     Ok(found)
 }
 
 // The nodes that a quad puts into its graph.
-fn put_nodes(alloc: Global, found: &mut Vec<ById>, row: &Row) -> Result<(), Memory>
+fn put_nodes(found: &mut Vec<Shared>, row: &Row) -> Result<(), Memory>
     ensures { OnOk result (found.new.items ≡ found.old.items ++ nodes_in row.now) }
 {
-    put_node(alloc, found, row.subject.term())?;
+    put_node(found, &row.subject)?;
     if tells_type(row) {
         return Ok(());
     }
-    put_node(alloc, found, row.object.term())
+    put_node(found, &row.object)
 }

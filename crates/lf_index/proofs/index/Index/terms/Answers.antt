@@ -8,6 +8,6 @@ use Rattle.lf_index.proofs.index.Index.terms.Goals as goal
 
 pub returns : goal.returns
 returns c =
-    IfOk-weaker c.in_id_order.result _ _ (λ found e.
+    IfOk-weaker c.each_in_id_order.result _ _ (λ found e.
     e ∙ (ap (set_of id_cmp) c.in_ok-nodes_of.ensures ∙ (terms_told c.self.inside.by_subject ∙ ap terms c.self.view_is))
-    ) c.in_id_order.ensures
+    ) c.each_in_id_order.ensures

@@ -60,10 +60,11 @@ both_ways true c f g = sym (f refl)
 both_ways false true f g = g refl
 both_ways false false f g = refl
 
--- what tells whether two quads are one tells whether an order ties them
-pub ties_told : {cmp : Quad → Quad → Ordering} (o : IsStrict quad_eq cmp) (b : Bool) (x y : Quad) → IsTrue b ↔ (x ≡ y) → b ≡ eq_by_cmp cmp x y
-ties_told o b x y is =
-    both_ways b (quad_eq x y) (λ e. (o.decides x y).1 (is.0 e)) (λ e. is.1 ((o.decides x y).0 e)) ∙ same_ties o x y
+-- what tells whether two values are one tells whether an order ties them
+pub ties_told : {A : Type 0} {same : A → A → Bool} {cmp : A → A → Ordering} (o : IsStrict same cmp) (b : Bool) (x y : A) → IsTrue b ↔ (x ≡ y)
+    → b ≡ eq_by_cmp cmp x y
+ties_told {same = same} o b x y is =
+    both_ways b (same x y) (λ e. (o.decides x y).1 (is.0 e)) (λ e. is.1 ((o.decides x y).0 e)) ∙ same_ties o x y
 
 pub subject_strictly : IsStrict quad_eq subject_order
 subject_strictly =

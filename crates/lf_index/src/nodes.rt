@@ -1,6 +1,7 @@
 //! Nodes in order of their ids, from handles of them with repeats.
-ghost use Rattle.std.specs.Prelude.{◌≡◌, ◌∷◌, [], ◌++◌, IfOk, OnOk};
-ghost use Rattle.std.specs.List.{filter};
+ghost use Rattle.std.specs.Prelude.{◌≡◌, ◌∷◌, [], ◌++◌, Bool, IfOk, OnOk};
+ghost use Rattle.std.specs.List.{filter, list_any};
+ghost use Rattle.lf_rdf.specs.declared.term.Term.{Term};
 ghost use Rattle.def_datasets.specs.Sorted.{set_of};
 ghost use Rattle.def_datasets.specs.Order.{id_cmp};
 ghost use Rattle.def_datasets.specs.Terms.{is_node};
@@ -9,7 +10,7 @@ use crate::near::{Chunked, chunk_of, chunks_of, nearly_sorted};
 use crate::shared::Shared;
 use def_datasets::is_node;
 use lf_base::Memory;
-use lf_order::{ById, in_id_order, sorted_set};
+use lf_order::{ById, in_id_order};
 use lf_rdf::{Term, TermList};
 use std::alloc::Global;
 
@@ -53,12 +54,22 @@ impl Chunked for Shared {
     }
 }
 
+// The terms, each once, in order of their numbers.
+fn each_once(found: Vec<Shared>) -> Result<Vec<Shared>, Memory>
+    ensures { IfOk result (λ made. (test : Term → Bool) → list_any test made.items ≡ list_any test found.items) }
+{
+    let mut made = found;
+    made.sort_by_key(|term| term.number())?;
+    made.dedup();
+    Ok(made)
+}
+
 /// The terms in order of their ids, each once. For n handles of k terms it takes n log n comparisons of numbers, and goes over
 /// the ids of the k terms.
 pub fn each_in_id_order(alloc: Global, found: Vec<Shared>) -> Result<TermList, Memory>
     ensures { IfOk result (λ terms. terms ≡ set_of id_cmp found.items) }
 {
-    let each = nearly_sorted(alloc, sorted_set(found)?)?;
+    let each = nearly_sorted(alloc, each_once(found)?)?;
     in_id_order(alloc, with_ids(alloc, each.as_slice())?)
 }
 

@@ -121,7 +121,7 @@ impl PartialEq for Shared {
     ghost laws = { partial_equiv_from_equiv term_equivalence };
 
     fn eq(&self, other: &Shared) -> bool {
-        self.order(other).is_eq()
+        self.is(other)
     }
 }
 

@@ -4,8 +4,6 @@ use Rattle.std.proofs.lemmas.Result.{IfOk-weaker}
 use Rattle.lf_rdf.specs.Equality.{term_eq}
 use Rattle.def_datasets.proofs.OrderLaws.{id_strict}
 use Rattle.lf_order.proofs.SetLemmas.{set_alike}
-use Rattle.lf_order.proofs.Ties.{equal_from}
-use Rattle.lf_index.proofs.OrderLemmas.{term_strictly}
 use Rattle.lf_index.proofs.nodes.each_in_id_order.Goals as goal
 
 pub returns : goal.returns
@@ -14,5 +12,5 @@ returns c =
     IfOk-weaker c.in_id_order.result _ _ (λ terms e.
     e ∙ set_alike id_strict _ _ (λ z.
     ap (list_any (term_eq z)) made
-    ∙ (c.in_ok-each.ensures (term_eq z) ∙ c.in_ok-sorted_set.ensures.members (term_eq z) (λ x y tie. ap (term_eq z) (term_strictly.tells x y (equal_from _ tie)))))
+    ∙ (c.in_ok-each.ensures (term_eq z) ∙ c.in_ok-each_once.ensures (term_eq z)))
     ) c.in_id_order.ensures

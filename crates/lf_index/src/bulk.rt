@@ -14,6 +14,7 @@ use crate::by_subject::BySubject;
 use crate::index::Index;
 use crate::recent::Recent;
 use crate::row::Row;
+use crate::scan::Keyed;
 use crate::shared::Shared;
 use lf_base::Memory;
 use lf_order::sorted_set;

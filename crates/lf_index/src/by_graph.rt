@@ -4,7 +4,7 @@ ghost use Rattle.std.specs.Arc.{arc_value};
 
 use crate::row::Row;
 use crate::scan::Keyed;
-use lf_base::Same;
+use lf_base::{Memory, Same};
 use std::cmp::Ordering;
 use std::marker::Model;
 use std::sync::Arc;
@@ -38,6 +38,10 @@ impl Keyed for ByGraph {
 
     fn row(&self) -> &Row {
         &self.row
+    }
+
+    fn handle(&self) -> Result<Arc<Row>, Memory> {
+        Ok(Arc::try_clone(&self.row)?)
     }
 }
 

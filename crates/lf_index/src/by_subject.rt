@@ -1,5 +1,5 @@
 //! Rows in order of subject, graph, predicate and object.
-ghost use Rattle.std.specs.Prelude.{◌≡◌, IfOk};
+ghost use Rattle.std.specs.Prelude.{◌≡◌};
 ghost use Rattle.std.specs.Arc.{arc_value};
 
 use crate::row::Row;
@@ -38,13 +38,6 @@ impl BySubject {
         let number = row.subject.number();
         BySubject { number, row }
     }
-
-    /// A handle of the row.
-    pub fn handle(&self) -> Result<Arc<Row>, Memory>
-        ensures { IfOk result (λ row. arc_value row ≡ self.now) }
-    {
-        Ok(Arc::try_clone(&self.row)?)
-    }
 }
 
 impl Keyed for BySubject {
@@ -52,6 +45,10 @@ impl Keyed for BySubject {
 
     fn row(&self) -> &Row {
         &self.row
+    }
+
+    fn handle(&self) -> Result<Arc<Row>, Memory> {
+        Ok(Arc::try_clone(&self.row)?)
     }
 }
 

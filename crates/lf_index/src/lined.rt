@@ -1,58 +1,65 @@
-//! Quads of an answer with their canonical lines, and the answer in line order.
+//! Rows of an answer with their canonical lines, and the answer in line order.
 ghost use Rattle.std.specs.Prelude.{◌≡◌, IfOk};
+ghost use Rattle.std.specs.Arc.{arc_value};
 ghost use Rattle.def_datasets.specs.Dataset.{dataset_of};
 
 use crate::lines::line_of;
-use crate::parts::quads_by_parts;
+use crate::near::{Chunked, chunk_of, chunks_of, nearly_sorted};
+use crate::parts::rows_by_parts;
 use crate::row::Row;
-use lf_base::Memory;
+use lf_base::{Memory, Same};
 use lf_order::sorted_set;
 use lf_rdf::{Quad, QuadList};
 use std::alloc::Global;
 use std::cmp::Ordering;
 use std::marker::Model;
+use std::sync::Arc;
 
-/// A quad with its canonical line.
+/// A row with its canonical line.
 #[derive(Drop)]
 pub struct Lined {
     line: Vec<u8>,
-    quad: Quad,
+    row: Arc<Row>,
 }
 
 impl Model for Lined {
     ghost use Rattle.std.specs.Prelude.{◌≡◌};
+    ghost use Rattle.std.specs.Arc.{arc_value};
     ghost use Rattle.lf_rdf.specs.declared.quad.Quad.{Quad};
     ghost use Rattle.lf_rdf.specs.Canonical.{line as line_of_quad};
 
     ghost Value = { Quad };
 
-    ghost view = { λ l. l.quad };
+    ghost view = { λ l. arc_value l.row };
 
-    ghost invariant = { λ l. l.line.items ≡ line_of_quad l.quad };
+    ghost invariant = { λ l. l.line.items ≡ line_of_quad (arc_value l.row) };
 }
 
 impl Lined {
-    /// The quad of a row, with its line.
-    pub fn of(alloc: Global, row: &Row) -> Result<Lined, Memory>
-        ensures { IfOk result (λ lined. lined ≡ row.now) }
+    /// A row with its line.
+    pub fn of(alloc: Global, row: Arc<Row>) -> Result<Lined, Memory>
+        ensures { IfOk result (λ lined. lined ≡ arc_value row) }
     {
-        let quad = row.quad(alloc)?;
-        match line_of(alloc, &quad) {
-            Ok(line) => Ok(Lined { line, quad }),
-            Err(refused) => {
-                drop(quad);
-                Err(refused)
-            }
-        }
+        let line = line_of(alloc, &row)?;
+        Ok(Lined { line, row })
     }
 
-    /// The quad.
-    pub fn into_quad(self) -> Quad
-        ensures { result ≡ self }
+    // The quad of the row.
+    fn quad(&self, alloc: Global) -> Result<Quad, Memory>
+        ensures { IfOk result (λ quad. quad ≡ self.now) }
     {
-        let Lined { line, quad } = self;
-        drop(line);
-        quad
+        self.row.quad(alloc)
+    }
+}
+
+// By the bytes of the line.
+impl Chunked for Lined {
+    fn chunk(&self, place: usize) -> u64 {
+        chunk_of(self.line.as_slice(), place)
+    }
+
+    fn chunks(&self) -> usize {
+        chunks_of(self.line.as_slice())
     }
 }
 
@@ -67,7 +74,7 @@ impl PartialEq for Lined {
     ghost laws = { partial_equiv_from_equiv quad_equivalence };
 
     fn eq(&self, other: &Lined) -> bool {
-        self.cmp(other).is_eq()
+        self.row.is(&other.row)
     }
 }
 
@@ -109,24 +116,25 @@ impl Ord for Lined {
         self.line
             .as_slice()
             .cmp(other.line.as_slice())
-            .then_with(|| quads_by_parts(&self.quad, &other.quad))
+            .then_with(|| rows_by_parts(&self.row, &other.row))
     }
 }
 
-/// The quads in line order, each once. It takes n log n comparisons of lines.
+/// The quads in line order, each once. For n quads it takes n log n comparisons of numbers, and goes over the lines.
 pub fn in_line_order(alloc: Global, found: Vec<Lined>) -> Result<QuadList, Memory>
     ensures { IfOk result (λ quads. quads ≡ dataset_of found.items) }
 {
-    quads_of(alloc, sorted_set(found)?)
+    let lined = sorted_set(nearly_sorted(alloc, found)?)?;
+    quads_of(alloc, lined.as_slice())
 }
 
 // The quads without their lines.
-fn quads_of(alloc: Global, lined: Vec<Lined>) -> Result<QuadList, Memory>
-    ensures { IfOk result (λ quads. quads ≡ lined.items) }
+fn quads_of(alloc: Global, lined: &[Lined]) -> Result<QuadList, Memory>
+    ensures { IfOk result (λ quads. quads ≡ lined.now) }
 {
     let mut quads = Vec::with_capacity(alloc, lined.len())?;
     for one in lined {
-        quads.push(one.into_quad())?;
+        quads.push(one.quad(alloc)?)?;
     }
     Ok(QuadList::from_vec(quads))
 }

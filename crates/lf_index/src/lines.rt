@@ -2,20 +2,22 @@
 ghost use Rattle.std.specs.Prelude.{◌≡◌, ◌++◌, ◌∷◌, IfOk, OnOk};
 ghost use Rattle.lf_rdf.specs.Canonical.{label_text, line, term_text};
 
+use crate::row::Row;
+use crate::shared::Shared;
 use lf_base::Memory;
 use lf_order::put_term;
-use lf_rdf::{Quad, Term};
+use lf_rdf::Term;
 use std::alloc::Global;
 
-/// The canonical line of a quad, without its line end.
-pub fn line_of(alloc: Global, quad: &Quad) -> Result<Vec<u8>, Memory>
-    ensures { IfOk result (λ made. made.items ≡ line quad.now) }
+/// The canonical line of the quad of a row, without its line end.
+pub fn line_of(alloc: Global, row: &Row) -> Result<Vec<u8>, Memory>
+    ensures { IfOk result (λ made. made.items ≡ line row.now) }
 {
     let mut made = Vec::new(alloc);
-    put_term(&mut made, &quad.subject)?;
-    put_spaced(&mut made, &quad.predicate)?;
-    put_spaced(&mut made, &quad.object)?;
-    put_label(&mut made, &quad.graph)?;
+    put_term(&mut made, row.subject.term())?;
+    put_spaced(&mut made, row.predicate.term())?;
+    put_spaced(&mut made, row.object.term())?;
+    put_label(&mut made, &row.graph)?;
     made.extend_from_slice(b" .")?;
     Ok(made)
 }
@@ -29,11 +31,11 @@ fn put_spaced(made: &mut Vec<u8>, term: &Term) -> Result<(), Memory>
 }
 
 // The graph label and the space before it, where there is one.
-fn put_label(made: &mut Vec<u8>, label: &Option<Term>) -> Result<(), Memory>
+fn put_label(made: &mut Vec<u8>, label: &Option<Shared>) -> Result<(), Memory>
     ensures { OnOk result (made.new.items ≡ made.old.items ++ label_text label.now) }
 {
     match label {
-        Some(name) => put_spaced(made, name),
+        Some(name) => put_spaced(made, name.term()),
         None => Ok(()),
     }
 }

@@ -2,12 +2,13 @@
 ghost use Rattle.std.specs.Prelude.{◌≡◌};
 ghost use Rattle.def_datasets.specs.Order.{label_parts, parts_cmp, parts_order};
 
+use crate::row::Row;
+use crate::shared::Shared;
 use lf_order::by_parts;
-use lf_rdf::{Quad, Term};
 use std::cmp::Ordering;
 
-/// How two graph labels stand by kind and texts, the default graph first.
-fn labels_by_parts(one: &Option<Term>, two: &Option<Term>) -> Ordering
+// How two graph labels stand by kind and texts, the default graph first.
+fn labels_by_parts(one: &Option<Shared>, two: &Option<Shared>) -> Ordering
     ensures { result ≡ parts_cmp (label_parts one.now) (label_parts two.now) }
 {
     match one {
@@ -17,16 +18,19 @@ fn labels_by_parts(one: &Option<Term>, two: &Option<Term>) -> Ordering
         },
         Some(name) => match two {
             None => Ordering::Greater,
-            Some(other) => by_parts(name, other),
+            Some(other) => by_parts(name.term(), other.term()),
         },
     }
 }
 
-/// How two quads stand by their terms.
-pub fn quads_by_parts(one: &Quad, two: &Quad) -> Ordering
+/// How the quads of two rows stand by their terms.
+pub fn rows_by_parts(one: &Row, two: &Row) -> Ordering
     ensures { result ≡ parts_order one.now two.now }
 {
-    by_parts(&one.subject, &two.subject).then(by_parts(&one.predicate, &two.predicate).then(
-        by_parts(&one.object, &two.object).then(labels_by_parts(&one.graph, &two.graph)),
-    ))
+    by_parts(one.subject.term(), two.subject.term()).then(by_parts(
+        one.predicate.term(),
+        two.predicate.term(),
+    ).then(by_parts(one.object.term(), two.object.term()).then(labels_by_parts(
+        &one.graph, &two.graph,
+    ))))
 }

@@ -1,4 +1,5 @@
 //! Scans of the rows of an order, from a place on as far as a question reaches.
+ghost use Rattle.std.specs.Arc.{arc_value};
 ghost use Rattle.std.specs.Prelude.{◌≡◌, ◌++◌, IfOk, OnOk, map};
 ghost use Rattle.def_datasets.specs.Questions.{nodes_in};
 ghost use Rattle.lf_ptree.specs.Ranges.{pairs_left};
@@ -13,6 +14,7 @@ use lf_base::Memory;
 use lf_ptree::Pairs;
 use lf_rdf::Question;
 use std::alloc::Global;
+use std::sync::Arc;
 
 /// A key that holds a row.
 pub trait Keyed {
@@ -24,6 +26,10 @@ pub trait Keyed {
     /// The row.
     fn row(&self) -> &Row
         ensures { result.now ≡ quad self.now };
+
+    /// A handle of the row.
+    fn handle(&self) -> Result<Arc<Row>, Memory>
+        ensures { IfOk result (λ row. arc_value row ≡ quad self.now) };
 }
 
 /// The quads of a scan for a question.
@@ -40,7 +46,7 @@ pub fn quads_reached<K: Keyed>(
         if !reaches(question, row) {
             return Ok(found);
         }
-        found.push(Lined::of(alloc, row)?)?;
+        found.push(Lined::of(alloc, pair.0.handle()?)?)?;
     }
     Ok(found)
 }

@@ -6,4 +6,9 @@ use Rattle.lf_index.proofs.lined.in_line_order.Goals as goal
 
 pub returns : goal.returns
 returns c =
-    IfOk-weaker c.quads_of.result _ _ (λ made e. e ∙ sorted_set_of quad_strict _ _ c.in_ok-sorted_set.ensures.ascends c.in_ok-sorted_set.ensures.members) c.quads_of.ensures
+    let near = c.in_ok-nearly_sorted.ensures in
+    IfOk-weaker c.quads_of.result _ _ (λ made e.
+    e
+    ∙ (c.as_slice.ensures.value
+    ∙ sorted_set_of quad_strict _ _ c.in_ok-lined.ensures.ascends (λ test ties. c.in_ok-lined.ensures.members test ties ∙ near test))
+    ) c.quads_of.ensures

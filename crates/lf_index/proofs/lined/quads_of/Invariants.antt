@@ -1,5 +1,5 @@
-use Rattle.std.proofs.Common.{◌≡◌, ◌++◌}
+use Rattle.std.proofs.Common.{◌≡◌, take}
 use Rattle.lf_index.proofs.lined.quads_of.Given as goal
 
 abbrev pub invariant-loop-one : goal.invariant-loop-one
-invariant-loop-one l = l.quads.items ++ l.one-iterator.rest.items ≡ l.fn.lined.items
+invariant-loop-one l = l.quads.items ≡ take l.one-index l.lined

@@ -9,11 +9,14 @@ use lf_order::put_term;
 use lf_rdf::Term;
 use std::alloc::Global;
 
+// Most lines have no more bytes.
+const USUAL: usize = 128;
+
 /// The canonical line of the quad of a row, without its line end.
 pub fn line_of(alloc: Global, row: &Row) -> Result<Vec<u8>, Memory>
     ensures { IfOk result (λ made. made.items ≡ line row.now) }
 {
-    let mut made = Vec::new(alloc);
+    let mut made = Vec::with_capacity(alloc, USUAL)?;
     put_term(&mut made, row.subject.term())?;
     put_spaced(&mut made, row.predicate.term())?;
     put_spaced(&mut made, row.object.term())?;

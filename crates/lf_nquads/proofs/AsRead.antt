@@ -1,12 +1,6 @@
 -- Reading with kinds gives what reading without them gives.
-use Rattle.std.proofs.Common.{◌≡◌, ℕ, zero, suc, Bool, true, false, cond, List, [], ◌∷◌, length, Option, Some, None, Result, Ok, Err, refl, sym, ap, ◌∙◌}
-use Rattle.std.specs.Prelude.{encode_utf8_all}
+use Rattle.std.proofs.Common.{◌≡◌, ℕ, zero, suc, Bool, true, false, cond, List, ◌∷◌, length, Option, Some, None, Result, Ok, Err, refl, ap, ◌∙◌}
 use Rattle.std.specs.Result.{result_ok}
-use Rattle.lf_rdf.specs.declared.term.Term.{Term}
-use Rattle.lf_rdf.specs.declared.term.Term.TheVariants.{Iri, Blank, Literal}
-use Rattle.lf_rdf.specs.declared.quad.Quad.{Quad}
-use Rattle.lf_rdf.specs.declared.quad.Signed.{Signed}
-use Rattle.lf_rdf.specs.Vocabulary.{xsd_string, rdf_lang_string}
 use Rattle.def_patch_texts.specs.declared.kind.LineKind.{LineKind}
 use Rattle.def_patch_texts.specs.Terminals.{Allowed}
 use Rattle.def_patch_texts.specs.Reading as plain

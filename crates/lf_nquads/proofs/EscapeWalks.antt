@@ -1,20 +1,19 @@
 -- How far escapes go: as far as some digits that may follow name a character that may stand there.
-use Rattle.std.proofs.Common.{◌≡◌, ℕ, zero, suc, ◌+◌, ◌-◌, ◌*◌, ◌<◌, ◌≤◌, Bool, true, false, cond, List, [], ◌∷◌, ◌++◌, length, take, drop, Option, Some, None, refl, sym, ap, subst, ◌∙◌, append_assoc, arith, inl, inr}
-use Rattle.std.specs.Prelude.{nat_eq, nat_le, not, ◌&&◌, ◌||◌}
+use Rattle.std.proofs.Common.{◌≡◌, ℕ, zero, suc, ◌+◌, ◌*◌, ◌<◌, ◌≤◌, Bool, true, false, cond, List, [], ◌∷◌, ◌++◌, length, take, drop, Option, Some, None, refl, sym, ap, ◌∙◌, append_assoc, arith, inl, inr}
+use Rattle.std.specs.Prelude.{nat_eq, nat_le, ◌&&◌, ◌||◌}
 use Rattle.std.specs.Str.{all_scalars}
 use Rattle.std.specs.List.{list_all}
-use Rattle.std.proofs.lemmas.Bool.{and_parts, and_from, and_right, cases_lt, eqb-true, eq-eqb, ne_eqb, false_from_ne_true, false≢true, le-leb, lt-leb, or_right}
-use Rattle.std.proofs.lemmas.List.{length-append, append-nil}
+use Rattle.std.proofs.lemmas.Bool.{and_parts, and_right, cases_lt, eqb-true, eq-eqb, ne_eqb, false_from_ne_true, false≢true, le-leb, lt-leb, or_right}
+use Rattle.std.proofs.lemmas.List.{length-append}
 use Rattle.std.proofs.lemmas.Option.{none-some}
 use Rattle.def_patch_texts.specs.declared.kind.LineKind.{LineKind}
 use Rattle.def_patch_texts.specs.declared.kind.LineKind.TheVariants.{BadEscape}
 use Rattle.def_patch_texts.specs.Terminals.{Allowed}
 use Rattle.def_patch_texts.specs.Characters.{is_between, is_digit, is_hex_digit, hex_digit, hex_number}
-use Rattle.def_patch_texts.specs.PatchText.{absolute_iris}
 use Rattle.def_patch_texts.specs.BadLine.{any_iris, absolute_before, whole_before}
 use Rattle.def_patch_texts.specs.Reading.{numbered_at, unicode_at}
 use Rattle.lf_nquads.proofs.Hex.{digit_below}
-use Rattle.lf_nquads.proofs.Walks.{Lang, Mode, lax_mode, absolute_mode, whole_mode, allowed_in, Opens, Found, Step, any_step, shift, Finish, inside_end, inside_stop, Good}
+use Rattle.lf_nquads.proofs.Walks.{Lang, Mode, lax_mode, absolute_mode, whole_mode, allowed_in, Opens, Found, Step, any_step, shift, Finish, inside_end, inside_stop}
 
 -- ---- digits that may still name a character that passes a test
 

@@ -1,20 +1,20 @@
 -- How far labels and tags go, whose end is known only by what follows it.
-use Rattle.std.proofs.Common.{◌≡◌, ℕ, zero, suc, ◌+◌, ◌<◌, ◌≤◌, Bool, true, false, cond, List, [], ◌∷◌, ◌++◌, length, Option, Some, None, refl, sym, ap, subst, ◌∙◌, append_assoc, arith, inl, inr}
-use Rattle.std.specs.Prelude.{nat_eq, not, ◌&&◌, ◌||◌, ◌⊎◌}
+use Rattle.std.proofs.Common.{◌≡◌, ℕ, zero, suc, ◌≤◌, Bool, true, false, cond, List, [], ◌∷◌, ◌++◌, length, Option, Some, None, refl, sym, ap, subst, ◌∙◌, append_assoc, arith, inl, inr}
+use Rattle.std.specs.Prelude.{nat_eq, not, ◌||◌, ◌⊎◌}
 use Rattle.std.specs.List.{list_all}
-use Rattle.std.proofs.lemmas.Bool.{and_from, eqb-true, eqb-false, eq-eqb, false≢true}
+use Rattle.std.proofs.lemmas.Bool.{and_from, eqb-true, eqb-false, false≢true}
 use Rattle.std.proofs.lemmas.List.{length-append, append-nil}
 use Rattle.def_patch_texts.specs.declared.kind.LineKind.{LineKind}
 use Rattle.def_patch_texts.specs.declared.kind.LineKind.TheVariants.{Syntax}
 use Rattle.def_patch_texts.specs.Terminals.{Allowed}
-use Rattle.def_patch_texts.specs.Characters.{is_blank, is_digit, is_pn_chars_u, is_label_char, is_label, is_tag, is_tag_rest}
+use Rattle.def_patch_texts.specs.Characters.{is_digit, is_pn_chars_u, is_label_char, is_label, is_tag, is_tag_rest}
 use Rattle.def_patch_texts.specs.PatchText.{absolute_iris}
-use Rattle.def_patch_texts.specs.Reading.{skip, is_comment, front_at}
+use Rattle.def_patch_texts.specs.Reading.{is_comment, front_at}
 use Rattle.lf_nquads.specs.Scanning.{first_is, is_tag_char}
 use Rattle.lf_nquads.proofs.Places.{skip_none}
-use Rattle.lf_nquads.proofs.LabelProofs.{is_dot, LabelSoFar, longer_label, dots_are_chars, label_found, no_label, none_found}
+use Rattle.lf_nquads.proofs.LabelProofs.{is_dot, longer_label, dots_are_chars, label_found, no_label, none_found}
 use Rattle.lf_nquads.proofs.TagProofs.{TagSoFar, goes_further, dash_not_needed, tag_found, no_tag}
-use Rattle.lf_nquads.proofs.Walks.{Lang, Mode, allowed_in, Found, any_step, shift, Finish, IsPlain, at_end, stop, same_on, Good, anything, good_anything, skipped, skip_ends, good_skip}
+use Rattle.lf_nquads.proofs.Walks.{Lang, Mode, allowed_in, Found, any_step, shift, Finish, IsPlain, at_end, stop, same_on, Good, anything, good_anything, skipped, good_skip}
 
 -- ---- the end of a line: nothing, or a comment
 

@@ -1,15 +1,15 @@
 -- The longest label, found with the dots that may stand at its end.
-use Rattle.std.proofs.Common.{◌≡◌, ℕ, suc, ◌+◌, ◌<◌, ◌≤◌, Bool, true, false, cond, List, [], ◌∷◌, ◌++◌, length, Option, Some, None, refl, sym, ap, subst, ◌∙◌, append_assoc, arith, inl, inr}
+use Rattle.std.proofs.Common.{◌≡◌, ℕ, ◌+◌, ◌<◌, ◌≤◌, Bool, true, false, List, [], ◌∷◌, ◌++◌, length, Option, Some, None, refl, sym, ap, subst, ◌∙◌, append_assoc, arith, inl, inr}
 use Rattle.std.specs.Prelude.{nat_eq, not, ◌&&◌, ◌||◌}
 use Rattle.std.specs.List.{list_all}
 use Rattle.std.proofs.lemmas.Bool.{and_parts, and_from, cases_lt, or_cases, or_left, or_right, eqb-true, false≢true}
-use Rattle.std.proofs.lemmas.List.{length-append, append-nil}
+use Rattle.std.proofs.lemmas.List.{length-append}
 use Rattle.std.proofs.lemmas.List.Folds.{list_all-append}
-use Rattle.def_patch_texts.specs.Characters.{is_digit, is_pn_chars_u, is_label_char, is_label, ends_well, is_tag, is_tag_rest}
+use Rattle.def_patch_texts.specs.Characters.{is_digit, is_pn_chars_u, is_label_char, is_label, ends_well}
 use Rattle.def_patch_texts.specs.Reading.{front_at}
 use Rattle.def_patch_texts.proofs.Fronts.{front_again}
 use Rattle.def_patch_texts.proofs.Takes.{front_takes}
-use Rattle.lf_nquads.specs.Scanning.{first_is, is_tag_char}
+use Rattle.lf_nquads.specs.Scanning.{first_is}
 
 abbrev pub is_dot : ℕ → Bool
 is_dot c = nat_eq c 46

@@ -1,21 +1,20 @@
 -- How far a whole line goes, and so what is wrong with a line that isn't in the grammar.
-use Rattle.std.proofs.Common.{◌≡◌, ℕ, zero, suc, ◌+◌, ◌<◌, ◌≤◌, Bool, true, false, cond, List, [], ◌∷◌, ◌++◌, length, take, Option, Some, None, Result, Ok, Err, refl, sym, ap, subst, ◌∙◌, arith, inl, inr}
+use Rattle.std.proofs.Common.{◌≡◌, ℕ, Bool, true, false, cond, List, [], ◌∷◌, ◌++◌, length, take, Option, Some, None, Result, Ok, Err, refl, sym, ap, subst, ◌∙◌, inl, inr}
 use Rattle.std.specs.Prelude.{nat_eq, encode_utf8_all}
 use Rattle.std.specs.Result.{result_ok}
 use Rattle.std.proofs.lemmas.Bool.{eqb-true, false≢true}
 use Rattle.std.proofs.lemmas.Option.{none-some}
-use Rattle.lf_rdf.specs.declared.term.Term.{Term}
 use Rattle.lf_rdf.specs.declared.term.Term.TheVariants.{Iri, Blank, Literal}
 use Rattle.lf_rdf.specs.declared.quad.Quad.{Quad}
 use Rattle.lf_rdf.specs.declared.quad.Signed.{Signed}
-use Rattle.lf_rdf.specs.Vocabulary.{xsd_string, rdf_lang_string}
+use Rattle.lf_rdf.specs.Vocabulary.{rdf_lang_string}
 use Rattle.def_patch_texts.specs.declared.kind.LineKind.{LineKind}
 use Rattle.def_patch_texts.specs.declared.kind.LineKind.TheVariants.{Syntax, RelativeIri, BadEscape, NotUtf8, LineTooLong}
 use Rattle.def_patch_texts.specs.Terminals.{Allowed}
 use Rattle.def_patch_texts.specs.Characters.{is_blank, is_label, is_tag, lower}
 use Rattle.def_patch_texts.specs.Statements.{IsLineOf}
 use Rattle.def_patch_texts.specs.PatchText.{absolute_iris}
-use Rattle.def_patch_texts.specs.BadLine.{any_iris, absolute_before, whole_before, Begins, IsLongestFront, IsFault}
+use Rattle.def_patch_texts.specs.BadLine.{Begins, IsLongestFront, IsFault}
 use Rattle.def_patch_texts.specs.Reading as plain
 use Rattle.def_patch_texts.specs.Reading.{starts, after_char, skip, front_at, blank_at, tag_at, is_comment, quad_of, sign_at, line_at}
 use Rattle.def_patch_texts.proofs.Lines.{line_again}
@@ -23,8 +22,8 @@ use Rattle.def_patch_texts.proofs.TakesLine.{line_takes}
 use Rattle.lf_nquads.specs.Outcomes.{◌>>=◌, expected, all_parts_of, iri_part_of, string_part_of, iri_of, string_of, literal_of, node_of, typed_of, suffix_of, object_of, named_of, graph_of, statement_of, signed_of, line_of}
 use Rattle.lf_nquads.proofs.AsRead.{line_same}
 use Rattle.lf_nquads.proofs.Places.{skip_none}
-use Rattle.lf_nquads.proofs.Walks.{Lang, Mode, lax_mode, absolute_mode, whole_mode, allowed_in, Opens, FaultOf, Found, any_step, shift, Finish, at_end, same_on, Good, good_as, anything, good_anything, next, char, good_char, skipped, skip_ends, skip_blank, good_skip, branch, good_branch, commented, good_commented}
-use Rattle.lf_nquads.proofs.FrontWalks.{ended, rest, good_rest, After, over, label, good_label, tag, good_tag}
+use Rattle.lf_nquads.proofs.Walks.{Lang, Mode, lax_mode, absolute_mode, whole_mode, allowed_in, Opens, FaultOf, Found, any_step, shift, Finish, at_end, same_on, Good, anything, good_anything, next, char, good_char, skipped, skip_blank, good_skip, branch, good_branch, commented, good_commented}
+use Rattle.lf_nquads.proofs.FrontWalks.{rest, good_rest, After, over, label, good_label, tag, good_tag}
 use Rattle.lf_nquads.proofs.PartWalks.{over_parts, iri_closing, iri_parts, good_iri_parts, string_closing, string_parts, good_string_parts}
 
 -- ---- the languages of a line, from its end on

@@ -1,8 +1,8 @@
 -- How far IRIs and strings go.
-use Rattle.std.proofs.Common.{◌≡◌, ℕ, zero, suc, ◌+◌, ◌<◌, ◌≤◌, Bool, true, false, cond, List, [], ◌∷◌, ◌++◌, length, Option, Some, None, Result, Ok, Err, refl, sym, ap, subst, ◌∙◌, append_assoc, arith, inl, inr}
-use Rattle.std.specs.Prelude.{nat_eq, nat_lt, ◌&&◌, ◌||◌, encode_utf8_all}
-use Rattle.std.proofs.lemmas.Bool.{eqb-true, eq-eqb, ne_eqb, false≢true, lt-ltb, le-ltb, or_right}
-use Rattle.std.proofs.lemmas.List.{length-append, append-nil}
+use Rattle.std.proofs.Common.{◌≡◌, ℕ, zero, suc, ◌<◌, ◌≤◌, Bool, true, false, cond, List, [], ◌∷◌, ◌++◌, length, Option, Some, None, Result, Ok, Err, refl, sym, ap, ◌∙◌, append_assoc, arith, inr}
+use Rattle.std.specs.Prelude.{nat_eq, ◌&&◌}
+use Rattle.std.proofs.lemmas.Bool.{eqb-true, eq-eqb, lt-ltb, le-ltb, or_right}
+use Rattle.std.proofs.lemmas.List.{append-nil}
 use Rattle.def_patch_texts.specs.declared.kind.LineKind.{LineKind}
 use Rattle.def_patch_texts.specs.declared.kind.LineKind.TheVariants.{Syntax, RelativeIri, BadEscape}
 use Rattle.def_patch_texts.specs.Terminals.{Allowed}
@@ -11,10 +11,10 @@ use Rattle.def_patch_texts.specs.PatchText.{absolute_iris}
 use Rattle.def_patch_texts.specs.BadLine.{any_iris, absolute_before, whole_before}
 use Rattle.def_patch_texts.specs.Reading as plain
 use Rattle.def_patch_texts.specs.Reading.{starts, after_char, unicode_at, iri_part_at, escape_at, string_escape_at, string_part_at}
-use Rattle.lf_nquads.specs.Outcomes.{◌>>=◌, part_of, with_char, all_parts_of, iri_part_of, string_part_of}
+use Rattle.lf_nquads.specs.Outcomes.{part_of, with_char, all_parts_of, iri_part_of, string_part_of}
 use Rattle.lf_nquads.proofs.Parts.{Part, Shrinks, parts_done, parts_stop, parts_step, iri_shrinks, string_shrinks, raw_iri_part, raw_string_part}
-use Rattle.lf_nquads.proofs.Walks.{Lang, Mode, lax_mode, absolute_mode, whole_mode, allowed_in, Found, Step, any_step, shift, Closes, shift_relative, Finish, at_end, stop, Good, next}
-use Rattle.lf_nquads.proofs.EscapeWalks.{over_number, named_then, by_short, behind, Opened, walk_behind, can_four, can_eight, unicode_behind, unicode_nothing}
+use Rattle.lf_nquads.proofs.Walks.{Lang, Mode, lax_mode, absolute_mode, whole_mode, allowed_in, Found, any_step, shift, shift_relative, Finish, at_end, stop, Good, next}
+use Rattle.lf_nquads.proofs.EscapeWalks.{over_number, by_short, behind, Opened, walk_behind, can_four, can_eight, unicode_behind, unicode_nothing}
 
 abbrev pub over_parts : Result (List ℕ × List ℕ) LineKind → (List ℕ → List ℕ → Option LineKind) → Option LineKind
 over_parts (Err kind) k = Some kind

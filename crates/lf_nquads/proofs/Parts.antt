@@ -1,12 +1,11 @@
 -- The parts of an IRI or a string, read one by one or as one piece.
-use Rattle.std.proofs.Common.{◌≡◌, ℕ, zero, suc, ◌+◌, ◌<◌, ◌≤◌, Bool, true, false, cond, List, [], ◌∷◌, ◌++◌, length, take, drop, Option, Some, None, Result, Ok, Err, refl, sym, ap, subst, ◌∙◌, append_assoc, arith, inl, inr}
+use Rattle.std.proofs.Common.{◌≡◌, ℕ, zero, suc, ◌+◌, ◌<◌, Bool, true, false, cond, List, [], ◌∷◌, ◌++◌, length, take, drop, Option, Some, None, Result, Ok, Err, refl, sym, ap, subst, ◌∙◌, append_assoc, arith, inl, inr}
 use Rattle.std.specs.Prelude.{nat_eq, encode_utf8, encode_utf8_all}
-use Rattle.std.specs.List.{prefix_len, list_all}
-use Rattle.std.proofs.lemmas.Bool.{ne_eqb, eqb-true, false_from_ne_true, false≢true, and_parts, not-true}
+use Rattle.std.specs.List.{prefix_len}
+use Rattle.std.proofs.lemmas.Bool.{ne_eqb, false≢true}
 use Rattle.std.proofs.lemmas.Option.{cond_some}
 use Rattle.std.proofs.lemmas.List.{length-append, append-nil}
 use Rattle.def_patch_texts.specs.declared.kind.LineKind.{LineKind}
-use Rattle.def_patch_texts.specs.declared.kind.LineKind.TheVariants.{Syntax}
 use Rattle.def_patch_texts.specs.Characters.{is_iri_char, is_string_char, short_escape}
 use Rattle.def_patch_texts.specs.Terminals.{Allowed, IsNumbered, IsUnicodeEscape, IsIriPart}
 use Rattle.def_patch_texts.specs.Reading.{starts, unicode_at, iri_part_at, escape_at, string_escape_at, string_part_at}

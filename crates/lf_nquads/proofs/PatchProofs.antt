@@ -1,18 +1,18 @@
 -- Reading line after line.
-use Rattle.std.proofs.Common.{◌≡◌, ℕ, zero, suc, ◌+◌, ◌<◌, ◌≤◌, Bool, true, false, cond, List, [], ◌∷◌, ◌++◌, length, take, drop, Option, Some, None, Result, Ok, Err, refl, sym, ap, subst, ◌∙◌, append_assoc, arith, inl, inr}
-use Rattle.std.specs.Prelude.{nat_eq, not, ◌||◌, ◌⊎◌, IfOk, IsErrOf, IsUtf8}
+use Rattle.std.proofs.Common.{◌≡◌, ℕ, suc, ◌+◌, ◌<◌, ◌≤◌, Bool, true, false, cond, List, [], ◌∷◌, ◌++◌, length, take, drop, Option, Some, None, Result, Ok, Err, refl, sym, ap, subst, ◌∙◌, append_assoc, arith, inl, inr}
+use Rattle.std.specs.Prelude.{nat_eq, ◌⊎◌, IfOk, IsErrOf, IsUtf8}
 use Rattle.std.specs.List.{prefix_len, AllByRecursion}
 use Rattle.std.specs.Result.{result_ok}
 use Rattle.std.specs.Str.{chars}
-use Rattle.std.proofs.lemmas.Bool.{eqb-true, false≢true, not-true, or_parts, ne_eqb}
-use Rattle.std.proofs.lemmas.List.{length-append, length-drop, append-nil}
+use Rattle.std.proofs.lemmas.Bool.{eqb-true, not-true, or_parts}
+use Rattle.std.proofs.lemmas.List.{length-append, length-drop}
 use Rattle.std.proofs.lemmas.Str.{encodes-chars, scalars-chars}
 use Rattle.lf_rdf.specs.declared.quad.Signed.{Signed}
 use Rattle.lf_rdf.specs.declared.quad.Patch.{Patch}
 use Rattle.def_patch_texts.specs.declared.kind.LineKind.{LineKind}
 use Rattle.def_patch_texts.specs.declared.kind.LineKind.TheVariants.{Syntax, RelativeIri, BadEscape, NotUtf8, LineTooLong}
-use Rattle.def_patch_texts.specs.PatchText.{absolute_iris, is_line_end, with_first, cut_at, lines_from, lines_of, line_limit, IsEncoded, IsLine, with_stated, AreLines, IsPatchText}
-use Rattle.def_patch_texts.specs.BadLine.{HasFault, IsKind, IsGood, IsFirstBad, IsBadLine}
+use Rattle.def_patch_texts.specs.PatchText.{absolute_iris, is_line_end, lines_from, lines_of, line_limit, IsEncoded, IsLine, with_stated, AreLines, IsPatchText}
+use Rattle.def_patch_texts.specs.BadLine.{HasFault, IsKind, IsGood, IsBadLine}
 use Rattle.def_patch_texts.specs.Reading.{line_at}
 use Rattle.def_patch_texts.proofs.Faults.{not_good}
 use Rattle.def_patch_texts.proofs.Lines.{one_list}

@@ -2,7 +2,7 @@
 use Rattle.std.proofs.Common.{◌≡◌, ℕ, ◌+◌, ◌-◌, ◌<◌, ◌≤◌, Bool, true, false, cond, zero, suc, List, [], ◌∷◌, ◌++◌, length, take, drop, get_or, Option, Some, None, refl, sym, ap, subst, ◌∙◌, arith, inl, inr}
 use Rattle.std.specs.Prelude.{MatchOption, encode_utf8, encode_utf8_all}
 use Rattle.std.specs.List.{prefix_len, list_all}
-use Rattle.std.specs.Str.{chars, all_scalars, is_utf8, IsUtf8, IsCharBoundary}
+use Rattle.std.specs.Str.{chars, all_scalars, is_utf8, IsCharBoundary}
 use Rattle.std.proofs.lemmas.Bool.{and_parts, and_from, cases_lt, false≢true}
 use Rattle.std.proofs.lemmas.Bool.Decides.{nat_tests}
 use Rattle.std.proofs.lemmas.List.{nil_from_length, length-append, take_at, drop_at, take-append-drop}

@@ -1,17 +1,17 @@
 -- What the readers of terminals give.
-use Rattle.std.proofs.Common.{◌≡◌, ℕ, zero, suc, ◌+◌, ◌*◌, ◌<◌, ◌≤◌, Bool, true, false, cond, List, [], ◌∷◌, ◌++◌, length, take, drop, map, Option, Some, None, Result, Ok, Err, refl, sym, ap, subst, ◌∙◌, arith, inl, inr}
-use Rattle.std.specs.Prelude.{nat_eq, not, ◌||◌, slice_get, MatchOption, encode_utf8, encode_utf8_all}
+use Rattle.std.proofs.Common.{◌≡◌, ℕ, ◌+◌, ◌*◌, ◌<◌, ◌≤◌, Bool, true, false, cond, List, [], ◌∷◌, length, take, drop, map, Option, Some, None, Result, Ok, Err, refl, sym, ap, subst, ◌∙◌, arith, inl, inr}
+use Rattle.std.specs.Prelude.{nat_eq, ◌||◌, slice_get, encode_utf8_all}
 use Rattle.std.specs.List.{prefix_len}
-use Rattle.std.specs.Str.{chars, IsUtf8, all_scalars}
+use Rattle.std.specs.Str.{chars, IsUtf8}
 use Rattle.std.specs.Char.{IsScalar, to_ascii_lowercase}
 use Rattle.std.specs.List.{list_all}
-use Rattle.std.proofs.lemmas.Bool.{false≢true, and_parts, cases_lt, eqb-true, eqb-false, ne_eqb}
+use Rattle.std.proofs.lemmas.Bool.{false≢true, and_parts, cases_lt}
 use Rattle.std.proofs.lemmas.Bool.Decides.{nat_tests}
 use Rattle.std.proofs.lemmas.List.{nil_from_length}
 use Rattle.std.proofs.lemmas.Str.{chars_from_encodes, length-le-encodes}
 use Rattle.def_patch_texts.specs.declared.kind.LineKind.{LineKind}
 use Rattle.def_patch_texts.specs.declared.kind.LineKind.TheVariants.{Syntax, RelativeIri, BadEscape}
-use Rattle.def_patch_texts.specs.Characters.{is_absolute, is_iri_char, is_string_char, is_digit, is_pn_chars_u, is_label_char, is_label, is_tag, lower, short_escape, is_hex_digit}
+use Rattle.def_patch_texts.specs.Characters.{is_absolute, is_iri_char, is_string_char, is_digit, is_pn_chars_u, is_label_char, is_label, is_tag, lower, short_escape}
 use Rattle.def_patch_texts.specs.PatchText.{absolute_iris}
 use Rattle.def_patch_texts.specs.Reading as plain
 use Rattle.def_patch_texts.proofs.Takes.{front_takes}
@@ -20,12 +20,12 @@ use Rattle.def_patch_texts.proofs.Written.{ascii_cons}
 use Rattle.def_patch_texts.specs.Reading.{starts, after_char, front_at, tag_at, numbered_at, unicode_at, string_escape_at}
 use Rattle.lf_nquads.specs.declared.error.Fault.{Fault}
 use Rattle.lf_nquads.specs.declared.error.Fault.TheVariants.{Bad, Memory}
-use Rattle.lf_nquads.specs.Outcomes.{◌>>=◌, expected, all_parts_of, iri_part_of, string_part_of, iri_of, string_of}
+use Rattle.lf_nquads.specs.Outcomes.{expected, all_parts_of, iri_part_of, string_part_of, iri_of}
 use Rattle.lf_nquads.specs.Gives.{Fails, Gives, GivesDigit, as_escape, encoded, string_behind}
 use Rattle.lf_nquads.specs.Scanning.{first_is, TakesIf, first_in_label, is_tag_char}
 use Rattle.lf_nquads.proofs.Places.{TakesNext}
-use Rattle.lf_nquads.proofs.Hex.{ReadsDigits, reads_more, digit_below, digits_fit, digit_lacks, names_character, names_none}
-use Rattle.lf_nquads.proofs.Parts.{Part, Shrinks, SoFar, more_so_far, ends_so_far, stops_so_far, raw_front, iri_shrinks, string_shrinks, iri_raw, string_raw}
+use Rattle.lf_nquads.proofs.Hex.{ReadsDigits, reads_more, digit_below, digit_lacks, names_character, names_none}
+use Rattle.lf_nquads.proofs.Parts.{Part, SoFar, stops_so_far, raw_front, iri_shrinks, string_shrinks, iri_raw, string_raw}
 use Rattle.lf_nquads.proofs.LabelProofs.{LabelSoFar, label_begins, label_dot, label_more, label_found, no_label, none_found}
 use Rattle.lf_nquads.proofs.TagProofs.{TagSoFar, tag_more, tag_dash, tag_found, no_tag}
 

@@ -1,5 +1,5 @@
 -- Each text is told: what it states, or its first bad line and what is wrong with it.
-use Rattle.std.proofs.Common.{◌≡◌, ℕ, ◌<◌, ◌≤◌, Bool, true, false, List, length, Option, Result, Ok, Err, refl, sym, ◌∙◌, arith, inl, inr}
+use Rattle.std.proofs.Common.{◌≡◌, ℕ, ◌≤◌, Bool, true, false, List, length, Option, Result, Ok, Err, refl, sym, ◌∙◌, inl, inr}
 use Rattle.std.specs.Prelude.{◌⊎◌}
 use Rattle.std.specs.Str.{is_utf8, chars}
 use Rattle.std.proofs.lemmas.Bool.{cases_lt, false≢true}
@@ -8,7 +8,7 @@ use Rattle.lf_rdf.specs.declared.quad.Signed.{Signed}
 use Rattle.def_patch_texts.specs.declared.kind.LineKind.{LineKind}
 use Rattle.def_patch_texts.specs.declared.kind.LineKind.TheVariants.{NotUtf8, LineTooLong}
 use Rattle.def_patch_texts.specs.PatchText.{absolute_iris, line_limit, IsPatchText}
-use Rattle.def_patch_texts.specs.BadLine.{IsKind, IsGood, IsFirstBad, IsBadLine}
+use Rattle.def_patch_texts.specs.BadLine.{IsKind, IsGood, IsBadLine}
 use Rattle.def_patch_texts.proofs.EachText.{each_text}
 use Rattle.lf_nquads.specs.Outcomes.{line_of}
 use Rattle.lf_nquads.proofs.PatchProofs.{line_states, line_is_bad}

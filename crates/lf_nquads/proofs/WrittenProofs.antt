@@ -1,16 +1,14 @@
 -- What is written of quads reads back.
-use Rattle.std.proofs.Common.{◌≡◌, ℕ, ◌+◌, ◌<◌, ◌≤◌, Bool, true, false, List, [], ◌∷◌, ◌++◌, length, take, get_or, Result, Ok, Err, Some, None, refl, sym, ap, subst, ◌∙◌, append_assoc, inl, arith}
-use Rattle.std.specs.Prelude.{nat_eq, not, encode_utf8_all, IfOk}
+use Rattle.std.proofs.Common.{◌≡◌, ℕ, ◌+◌, ◌<◌, ◌≤◌, true, false, List, [], ◌∷◌, ◌++◌, length, take, get_or, Result, Ok, Err, Some, None, refl, sym, ap, subst, ◌∙◌, append_assoc, inl, arith}
+use Rattle.std.specs.Prelude.{nat_eq, encode_utf8_all, IfOk}
 use Rattle.std.specs.List.{list_all, AllByRecursion}
 use Rattle.std.proofs.lemmas.Bool.{and_parts, not-true, or_parts}
 use Rattle.std.proofs.lemmas.List.{append-nil, take_more}
 use Rattle.std.proofs.lemmas.Str.{encodes-append}
 use Rattle.lf_rdf.specs.declared.quad.Quad.{Quad}
-use Rattle.lf_rdf.specs.declared.quad.Signed.{Signed}
 use Rattle.lf_rdf.specs.Canonical.{line, escaped, escaped_byte}
 use Rattle.def_patch_texts.specs.Given.{IsGiven}
-use Rattle.def_patch_texts.specs.PatchText.{is_line_end, lines_from, lines_of, line_limit, absolute_iris, IsLine, AreLines, IsPatchText}
-use Rattle.def_patch_texts.specs.Statements.{IsLineOf}
+use Rattle.def_patch_texts.specs.PatchText.{is_line_end, lines_from, line_limit, IsLine, AreLines, IsPatchText}
 use Rattle.def_patch_texts.proofs.Written.{is_plain, bytes_plain, encodes-escaped}
 use Rattle.def_patch_texts.proofs.CanonicalLine.{given_line}
 use Rattle.lf_nquads.specs.Written.{lines_text, added, all_added}

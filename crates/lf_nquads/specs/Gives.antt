@@ -1,5 +1,6 @@
 -- What a reader of a line answers: what reading gives, or its kind where reading stops, unless no memory was found.
 use Rattle.std.specs.Prelude.{◌≡◌, ℕ, false, List, ◌∷◌, ◌++◌, Option, Some, None, Result, Ok, Err, IsTrue, encode_utf8_all}
+use Rattle.lf_base.specs.Ascii as ch
 use Rattle.def_patch_texts.specs.declared.kind.LineKind.{LineKind}
 use Rattle.def_patch_texts.specs.Characters.{is_hex_digit, hex_digit}
 use Rattle.def_patch_texts.specs.PatchText.{absolute_iris}
@@ -40,4 +41,4 @@ as_escape (Some x) = Ok x
 
 -- what stands behind a backslash in a string, where each escape is allowed
 abbrev pub string_behind : List ℕ → Option (ℕ × List ℕ)
-string_behind behind = string_escape_at absolute_iris (92 ∷ behind) behind
+string_behind behind = string_escape_at absolute_iris (ch.backslash ∷ behind) behind

@@ -1,6 +1,7 @@
 -- A line read from left to right, with what is wrong where the reading stops. Where it gives something it gives what
 -- `def_patch_texts` reads (its `Reading`).
-use Rattle.std.specs.Prelude.{ℕ, zero, suc, nat_eq, Bool, true, false, List, [], ◌∷◌, length, Option, Some, None, Result, Ok, Err, if◌then◌else◌, encode_utf8_all}
+use Rattle.std.specs.Prelude.{ℕ, zero, suc, List, [], ◌∷◌, length, Option, Some, None, Result, Ok, Err, if◌then◌else◌, encode_utf8_all}
+use Rattle.lf_base.specs.Ascii as ch
 use Rattle.lf_rdf.specs.declared.term.Term.{Term}
 use Rattle.lf_rdf.specs.declared.term.Term.TheVariants.{Iri, Blank, Literal}
 use Rattle.lf_rdf.specs.declared.quad.Quad.{Quad}
@@ -23,7 +24,7 @@ expected (Some x) = Ok x
 
 -- a part of an IRI or a string at the front of this text: behind a backslash only an escape may stand
 abbrev pub part_of : {A : Type 0} → List ℕ → Option A → Result A LineKind
-part_of text None = Err (if starts 92 text then BadEscape else Syntax)
+part_of text None = Err (if starts ch.backslash text then BadEscape else Syntax)
 part_of text (Some x) = Ok x
 
 -- ---- IRIs and strings
@@ -52,16 +53,16 @@ string_part_of allowed text = part_of text (string_part_at allowed text)
 
 unfoldable pub iri_of : Allowed → List ℕ → Result (List ℕ × List ℕ) LineKind
 iri_of allowed text = do
-  inside ← expected (after_char 60 text)
-  parts ← all_parts_of 62 (iri_part_of allowed) inside
-  rest ← expected (after_char 62 parts.1)
+  inside ← expected (after_char ch.less text)
+  parts ← all_parts_of ch.greater (iri_part_of allowed) inside
+  rest ← expected (after_char ch.greater parts.1)
   if allowed.iri parts.0 rest then Ok (encode_utf8_all parts.0, rest) else Err RelativeIri
 
 unfoldable pub string_of : Allowed → List ℕ → Result (List ℕ × List ℕ) LineKind
 string_of allowed text = do
-  inside ← expected (after_char 34 text)
-  parts ← all_parts_of 34 (string_part_of allowed) inside
-  rest ← expected (after_char 34 parts.1)
+  inside ← expected (after_char ch.quote text)
+  parts ← all_parts_of ch.quote (string_part_of allowed) inside
+  rest ← expected (after_char ch.quote parts.1)
   Ok (encode_utf8_all parts.0, rest)
 
 -- ---- terms
@@ -69,21 +70,21 @@ string_of allowed text = do
 -- an IRI or a blank node
 unfoldable pub node_of : Allowed → List ℕ → Result (Term × List ℕ) LineKind
 node_of allowed text =
-    if starts 60 text then (iri_of allowed text >>= λ iri. Ok (Iri iri.0, iri.1))
+    if starts ch.less text then (iri_of allowed text >>= λ iri. Ok (Iri iri.0, iri.1))
     else (expected (blank_at text) >>= λ label. Ok (Blank label.0, label.1))
 
 -- the datatype behind `^^`
 unfoldable pub typed_of : Allowed → List ℕ → Result (List ℕ × List ℕ) LineKind
 typed_of allowed text = do
-  caret ← expected (after_char 94 text)
-  iri ← expected (after_char 94 caret)
+  caret ← expected (after_char ch.caret text)
+  iri ← expected (after_char ch.caret caret)
   iri_of allowed (skip iri)
 
 -- a literal with this string, behind which this text stands
 unfoldable pub suffix_of : Allowed → List ℕ → List ℕ → Result (Term × List ℕ) LineKind
 suffix_of allowed value text =
-    if starts 94 (skip text) then (typed_of allowed (skip text) >>= λ datatype. Ok (Literal value datatype.0 None, datatype.1))
-    else if starts 64 (skip text) then (expected (tag_at (skip text)) >>= λ tag. Ok (Literal value rdf_lang_string (Some tag.0), tag.1))
+    if starts ch.caret (skip text) then (typed_of allowed (skip text) >>= λ datatype. Ok (Literal value datatype.0 None, datatype.1))
+    else if starts ch.at_sign (skip text) then (expected (tag_at (skip text)) >>= λ tag. Ok (Literal value rdf_lang_string (Some tag.0), tag.1))
     else Ok (Literal value xsd_string None, text)
 
 abbrev pub literal_of : Allowed → List ℕ → Result (Term × List ℕ) LineKind
@@ -91,7 +92,7 @@ literal_of allowed text = string_of allowed text >>= λ value. suffix_of allowed
 
 unfoldable pub object_of : Allowed → List ℕ → Result (Term × List ℕ) LineKind
 object_of allowed text =
-    if starts 34 text then literal_of allowed text else node_of allowed text
+    if starts ch.quote text then literal_of allowed text else node_of allowed text
 
 -- ---- lines
 
@@ -99,13 +100,13 @@ object_of allowed text =
 unfoldable pub named_of : Allowed → List ℕ → Result (Option Term × List ℕ) LineKind
 named_of allowed text = do
   name ← node_of allowed text
-  rest ← expected (after_char 46 (skip name.1))
+  rest ← expected (after_char ch.dot (skip name.1))
   Ok (Some name.0, rest)
 
 -- the graph label, where there is one, and the dot
 unfoldable pub graph_of : Allowed → List ℕ → Result (Option Term × List ℕ) LineKind
 graph_of allowed text =
-    if starts 46 (skip text) then (expected (after_char 46 (skip text)) >>= λ rest. Ok (None, rest)) else named_of allowed (skip text)
+    if starts ch.dot (skip text) then (expected (after_char ch.dot (skip text)) >>= λ rest. Ok (None, rest)) else named_of allowed (skip text)
 
 unfoldable pub statement_of : Allowed → List ℕ → Result Quad LineKind
 statement_of allowed text = do

@@ -1,5 +1,6 @@
 -- Reading a whole patch text.
 use Rattle.std.specs.Prelude.{◌≡◌, ℕ, nat_eq, not, Bool, List, [], ◌∷◌, ◌++◌, Option, Some, None, Result, Ok, Err, if◌then◌else◌}
+use Rattle.lf_base.specs.Ascii as ch
 use Rattle.lf_rdf.specs.declared.quad.Signed.{Signed}
 use Rattle.lf_rdf.specs.declared.quad.Patch.{Patch}
 use Rattle.def_patch_texts.specs.declared.kind.LineKind.{LineKind}
@@ -37,11 +38,11 @@ is_inside byte = not (is_line_end byte)
 -- what follows the end of a line, where it has one: LF belongs to a CR before it
 abbrev pub without_lf : List ℕ → List ℕ
 without_lf [] = []
-without_lf (byte ∷ rest) = if nat_eq byte 10 then rest else (byte ∷ rest)
+without_lf (byte ∷ rest) = if nat_eq byte ch.line_feed then rest else (byte ∷ rest)
 
 abbrev pub behind_end : List ℕ → Option (List ℕ)
 behind_end [] = None
-behind_end (byte ∷ rest) = Some (if nat_eq byte 13 then without_lf rest else rest)
+behind_end (byte ∷ rest) = Some (if nat_eq byte ch.carriage_return then without_lf rest else rest)
 
 -- whether a text is bad, where the answer says so
 abbrev pub IfBad : Result Patch LineErr → (ℕ → LineKind → Type 0) → Type 0

@@ -1,11 +1,12 @@
 -- Words for the loops that scan a terminal.
-use Rattle.std.specs.Prelude.{◌≡◌, ℕ, ◌-◌, nat_eq, Bool, true, false, not, ◌&&◌, ◌||◌, List, [], ◌∷◌, ◌++◌, Option, Some, None, if◌then◌else◌, slice_get}
+use Rattle.std.specs.Prelude.{◌≡◌, ℕ, nat_eq, Bool, true, false, not, ◌&&◌, ◌||◌, List, [], ◌∷◌, Option, Some, None, if◌then◌else◌}
 use Rattle.std.specs.Option.{MatchOption}
+use Rattle.lf_base.specs.Ascii as ch
 use Rattle.def_patch_texts.specs.Characters.{is_letter, is_digit, is_pn_chars_u, is_hex_digit, hex_digit}
 
 -- a character of a language tag, behind `-` or at its beginning, or where digits may stand
 abbrev pub is_tag_char : Bool → Bool → ℕ → Bool
-is_tag_char needed digits c = is_letter c || (digits && is_digit c) || (not needed && nat_eq c 45)
+is_tag_char needed digits c = is_letter c || (digits && is_digit c) || (not needed && nat_eq c ch.hyphen)
 
 -- the value of a hexadecimal digit
 abbrev pub hex_value : ℕ → Option ℕ

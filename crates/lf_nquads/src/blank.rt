@@ -15,7 +15,7 @@ use lf_base::Text;
 use std::alloc::Global;
 
 impl<'a> Cursor<'a> {
-    /// Takes the first character of a label.
+    // Takes the first character of a label.
     fn first_of_label(&mut self) -> Result<char, Fault>
         ensures { Gives (λ c. (c, self.new)) result (expected (first_in_label self.old)) }
     {
@@ -30,7 +30,7 @@ impl<'a> Cursor<'a> {
         }
     }
 
-    /// Takes the longest label. Dots at its end are left where they are.
+    // Takes the longest label. Dots at its end are left where they are.
     fn label(&mut self) -> Result<&'a str, Fault>
         ensures { Gives (λ label. (label.now, self.new)) result (encoded (expected (front_at is_label self.old))) }
     {

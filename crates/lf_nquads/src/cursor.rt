@@ -173,7 +173,7 @@ impl<'a> Cursor<'a> {
     }
 }
 
-/// How many bytes at the front belong to characters that may stand raw in an IRI.
+// How many bytes at the front belong to characters that may stand raw in an IRI.
 fn raw_iri_len(bytes: &[u8]) -> usize
     ensures { result ≡ prefix_len class.is_iri_char bytes.now }
 {
@@ -185,7 +185,7 @@ fn raw_iri_len(bytes: &[u8]) -> usize
     bytes.len()
 }
 
-/// How many bytes at the front belong to characters that may stand raw in a string.
+// How many bytes at the front belong to characters that may stand raw in a string.
 fn raw_string_len(bytes: &[u8]) -> usize
     ensures { result ≡ prefix_len class.is_string_char bytes.now }
 {

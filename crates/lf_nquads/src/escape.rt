@@ -9,7 +9,7 @@ use crate::error::Fault;
 use def_patch_texts::LineKind;
 
 impl Cursor<'_> {
-    /// Takes a hexadecimal digit.
+    // Takes a hexadecimal digit.
     fn hex(&mut self) -> Result<u32, Fault>
         ensures { GivesDigit self.old result self.new }
     {
@@ -22,7 +22,7 @@ impl Cursor<'_> {
         }
     }
 
-    /// Takes so many hexadecimal digits, which name a character.
+    // Takes so many hexadecimal digits, which name a character.
     fn numbered(&mut self, count: u32) -> Result<char, Fault>
         requires { count ≤ 8 }
         ensures { Gives (λ c. (c, self.new)) result (as_escape (numbered_at count self.old)) }

@@ -1,6 +1,7 @@
 //! IRIs in angle brackets (RDF 1.1 N-Quads, production `IRIREF`).
 ghost use Rattle.std.specs.Prelude.{◌≡◌, string_bytes};
 ghost use Rattle.std.specs.Str.{chars};
+ghost use Rattle.lf_base.specs.Ascii as ch;
 ghost use Rattle.def_patch_texts.specs.Characters as class;
 ghost use Rattle.def_patch_texts.specs.PatchText.{absolute_iris};
 ghost use Rattle.lf_nquads.specs.Outcomes.{all_parts_of, iri_part_of, iri_of};
@@ -14,7 +15,7 @@ use lf_base::Text;
 use std::alloc::Global;
 
 impl Cursor<'_> {
-    /// Takes one character of an IRI, raw or as an escape.
+    // Takes one character of an IRI, raw or as an escape.
     #[tactic(auto, unfolding(def_patch_texts::specs::Reading::iri_part_at))]
     fn iri_part(&mut self) -> Result<char, Fault>
         ensures { Gives (λ c. (c, self.new)) result (iri_part_of absolute_iris self.old) }
@@ -37,9 +38,9 @@ impl Cursor<'_> {
         }
     }
 
-    /// Takes the characters before `>`, one by one.
+    // Takes the characters before `>`, one by one.
     fn iri_parts(&mut self, alloc: Global) -> Result<String, Fault>
-        ensures { Gives (λ iri. (string_bytes iri, self.new)) result (encoded (all_parts_of 62 (iri_part_of absolute_iris) self.old)) }
+        ensures { Gives (λ iri. (string_bytes iri, self.new)) result (encoded (all_parts_of ch.greater (iri_part_of absolute_iris) self.old)) }
     {
         let mut iri = String::new(alloc);
         while !self.begins('>') {
@@ -49,9 +50,9 @@ impl Cursor<'_> {
         Ok(iri)
     }
 
-    /// Takes the characters before `>`. Where none is an escape they are taken in one piece.
+    // Takes the characters before `>`. Where none is an escape they are taken in one piece.
     fn iri_text(&mut self, alloc: Global) -> Result<Text, Fault>
-        ensures { Gives (λ iri. (iri, self.new)) result (encoded (all_parts_of 62 (iri_part_of absolute_iris) self.old)) }
+        ensures { Gives (λ iri. (iri, self.new)) result (encoded (all_parts_of ch.greater (iri_part_of absolute_iris) self.old)) }
     {
         let mut ahead = self.here();
         let raw = ahead.raw_iri();
@@ -79,7 +80,7 @@ impl Cursor<'_> {
     }
 }
 
-/// Whether an IRI begins with a scheme and `:` (RFC 3986, section 3.1).
+// Whether an IRI begins with a scheme and `:` (RFC 3986, section 3.1).
 fn is_absolute(iri: &str) -> bool
     ensures { result ≡ class.is_absolute (chars iri.now) }
 {
@@ -90,7 +91,7 @@ fn is_absolute(iri: &str) -> bool
     }
 }
 
-/// Whether characters of a scheme and `:` follow.
+// Whether characters of a scheme and `:` follow.
 fn ends_scheme(mut cursor: Cursor<'_>) -> bool
     ensures { result ≡ class.ends_scheme cursor.entry }
 {

@@ -1,5 +1,6 @@
 //! Literals: strings, language tags and datatypes (RDF 1.1 N-Quads, section 2.3).
 ghost use Rattle.std.specs.Prelude.{◌≡◌, IfOk, string_bytes};
+ghost use Rattle.lf_base.specs.Ascii as ch;
 ghost use Rattle.lf_rdf.specs.Vocabulary.{rdf_lang_string};
 ghost use Rattle.def_patch_texts.specs.Characters.{is_tag};
 ghost use Rattle.def_patch_texts.specs.PatchText.{absolute_iris};
@@ -17,7 +18,7 @@ use std::alloc::Global;
 
 const RDF_LANG_STRING: &str = "http://www.w3.org/1999/02/22-rdf-syntax-ns#langString";
 
-/// The IRI of `rdf:langString`, the datatype of literals with a language.
+// The IRI of `rdf:langString`, the datatype of literals with a language.
 #[tactic(auto, unfolding(lf_rdf::specs::Vocabulary::rdf_lang_string))]
 fn rdf_lang_string(alloc: Global) -> Result<Text, Memory>
     ensures { IfOk result (λ iri. iri ≡ rdf_lang_string) }
@@ -26,7 +27,7 @@ fn rdf_lang_string(alloc: Global) -> Result<Text, Memory>
 }
 
 impl<'a> Cursor<'a> {
-    /// Takes what stands behind a backslash in a string.
+    // Takes what stands behind a backslash in a string.
     #[tactic(auto, unfolding(def_patch_texts::specs::Reading::string_escape_at))]
     fn string_escape(&mut self) -> Result<char, Fault>
         ensures { Gives (λ c. (c, self.new)) result (as_escape (string_behind self.old)) }
@@ -43,7 +44,7 @@ impl<'a> Cursor<'a> {
         }
     }
 
-    /// Takes one character of a string, raw or as an escape.
+    // Takes one character of a string, raw or as an escape.
     #[tactic(auto, unfolding(def_patch_texts::specs::Reading::string_part_at))]
     fn string_part(&mut self) -> Result<char, Fault>
         ensures { Gives (λ c. (c, self.new)) result (string_part_of absolute_iris self.old) }
@@ -60,9 +61,9 @@ impl<'a> Cursor<'a> {
         }
     }
 
-    /// Takes the characters before `"`, one by one.
+    // Takes the characters before `"`, one by one.
     fn string_parts(&mut self, alloc: Global) -> Result<String, Fault>
-        ensures { Gives (λ value. (string_bytes value, self.new)) result (encoded (all_parts_of 34 (string_part_of absolute_iris) self.old)) }
+        ensures { Gives (λ value. (string_bytes value, self.new)) result (encoded (all_parts_of ch.quote (string_part_of absolute_iris) self.old)) }
     {
         let mut value = String::new(alloc);
         while !self.begins('"') {
@@ -72,9 +73,9 @@ impl<'a> Cursor<'a> {
         Ok(value)
     }
 
-    /// Takes the characters before `"`. Where none is an escape they are taken in one piece.
+    // Takes the characters before `"`. Where none is an escape they are taken in one piece.
     fn string_text(&mut self, alloc: Global) -> Result<Text, Fault>
-        ensures { Gives (λ value. (value, self.new)) result (encoded (all_parts_of 34 (string_part_of absolute_iris) self.old)) }
+        ensures { Gives (λ value. (value, self.new)) result (encoded (all_parts_of ch.quote (string_part_of absolute_iris) self.old)) }
     {
         let mut ahead = self.here();
         let raw = ahead.raw_string();
@@ -87,7 +88,7 @@ impl<'a> Cursor<'a> {
         Ok(Text::from_string(value)?)
     }
 
-    /// Takes a string in quotes.
+    // Takes a string in quotes.
     #[tactic(auto, unfolding(crate::specs::Outcomes::string_of))]
     fn string(&mut self, alloc: Global) -> Result<Text, Fault>
         ensures { Gives (λ value. (value, self.new)) result (string_of absolute_iris self.old) }
@@ -98,7 +99,7 @@ impl<'a> Cursor<'a> {
         Ok(value)
     }
 
-    /// Takes the longest tag. A `-` at its end is left where it is.
+    // Takes the longest tag. A `-` at its end is left where it is.
     fn tag_front(&mut self) -> Result<&'a str, Fault>
         ensures { Gives (λ tag. (tag.now, self.new)) result (encoded (expected (front_at is_tag self.old))) }
     {
@@ -121,7 +122,7 @@ impl<'a> Cursor<'a> {
         Ok(tag)
     }
 
-    /// Takes a language tag, and gives it in lower case.
+    // Takes a language tag, and gives it in lower case.
     #[tactic(auto, unfolding(def_patch_texts::specs::Reading::tag_at))]
     fn tag(&mut self, alloc: Global) -> Result<Text, Fault>
         ensures { Gives (λ tag. (tag, self.new)) result (expected (tag_at self.old)) }
@@ -133,7 +134,7 @@ impl<'a> Cursor<'a> {
         Ok(Text::from_string(lower)?)
     }
 
-    /// Takes `^^` and the IRI of a datatype.
+    // Takes `^^` and the IRI of a datatype.
     #[tactic(auto, unfolding(crate::specs::Outcomes::typed_of))]
     fn datatype(&mut self, alloc: Global) -> Result<Text, Fault>
         ensures { Gives (λ iri. (iri, self.new)) result (typed_of absolute_iris self.old) }
@@ -144,7 +145,7 @@ impl<'a> Cursor<'a> {
         self.iri(alloc)
     }
 
-    /// Takes what follows the string of a literal: a datatype, a tag or nothing.
+    // Takes what follows the string of a literal: a datatype, a tag or nothing.
     #[tactic(auto, unfolding(crate::specs::Outcomes::suffix_of))]
     fn suffix(&mut self, alloc: Global, lexical: Text) -> Result<Term, Fault>
         ensures { Gives (λ term. (term, self.new)) result (suffix_of absolute_iris lexical self.old) }

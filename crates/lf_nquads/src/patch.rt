@@ -16,10 +16,10 @@ use lf_rdf::{Patch, Signed, SignedList};
 use std::alloc::Global;
 use std::str;
 
-/// The most bytes of a line, without its end.
+// The most bytes of a line, without its end.
 const LINE_LIMIT: usize = 1_048_576;
 
-/// How many bytes stand before the end of the first line.
+// How many bytes stand before the end of the first line.
 fn line_len(text: &[u8]) -> usize
     ensures { result ≡ prefix_len is_inside text.now }
 {
@@ -31,7 +31,7 @@ fn line_len(text: &[u8]) -> usize
     text.len()
 }
 
-/// What stands behind the end of a line, where it has one.
+// What stands behind the end of a line, where it has one.
 fn behind(end: &[u8]) -> Option<&[u8]>
     ensures { option_copied result ≡ behind_end end.now }
 {
@@ -50,7 +50,7 @@ fn behind(end: &[u8]) -> Option<&[u8]>
     }
 }
 
-/// What a line states, or nothing where it is skipped.
+// What a line states, or nothing where it is skipped.
 fn stated(alloc: Global, line: &[u8]) -> Result<Option<Signed>, Fault>
     ensures { Judges line.now result }
 {
@@ -63,7 +63,7 @@ fn stated(alloc: Global, line: &[u8]) -> Result<Option<Signed>, Fault>
     }
 }
 
-/// Puts what the line with this number states at the end of the list.
+// Puts what the line with this number states at the end of the list.
 fn take_line(alloc: Global, line: &[u8], number: u64, lines: &mut SignedList) -> Result<(), LineErr>
     ensures { Takes line.now number lines.old result lines.new }
 {
@@ -89,8 +89,10 @@ pub fn read_patch(alloc: Global, bytes: &[u8]) -> Result<Patch, LineErr>
     ensures bad { IfBad result (λ line kind. IsBadLine bytes.now line kind) }
 
     // Each list that the text states is answered, and so is each first bad line with its kind.
-    ensures finds { (lines : List SignedShape) → IsPatchText bytes.now lines → IsErrOf result LineErr.Memory ⊎ (result ≡ Ok (record { lines = lines; bytes = length bytes.now })) }
-    ensures names { (line : ℕ) (kind : KindShape) → IsBadLine bytes.now line kind → IsErrOf result LineErr.Memory ⊎ (result ≡ Err (LineErr.Bad line kind)) }
+    ensures finds { (lines : List SignedShape) → IsPatchText bytes.now lines →
+        IsErrOf result LineErr.Memory ⊎ (result ≡ Ok (record { lines = lines; bytes = length bytes.now })) }
+    ensures names { (line : ℕ) (kind : KindShape) → IsBadLine bytes.now line kind →
+        IsErrOf result LineErr.Memory ⊎ (result ≡ Err (LineErr.Bad line kind)) }
 {
     let mut lines = SignedList::new(alloc);
     let mut number: u64 = 0;

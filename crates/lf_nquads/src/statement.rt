@@ -13,7 +13,7 @@ use lf_rdf::{Quad, Signed, Term};
 use std::alloc::Global;
 
 impl Cursor<'_> {
-    /// Takes a subject or a graph label: an IRI or a blank node.
+    // Takes a subject or a graph label: an IRI or a blank node.
     #[tactic(auto, unfolding(crate::specs::Outcomes::node_of))]
     fn node(&mut self, alloc: Global) -> Result<Term, Fault>
         ensures { Gives (λ node. (node, self.new)) result (node_of absolute_iris self.old) }
@@ -26,7 +26,7 @@ impl Cursor<'_> {
         Ok(Term::Blank(label))
     }
 
-    /// Takes an object.
+    // Takes an object.
     #[tactic(auto, unfolding(crate::specs::Outcomes::object_of))]
     fn object(&mut self, alloc: Global) -> Result<Term, Fault>
         ensures { Gives (λ object. (object, self.new)) result (object_of absolute_iris self.old) }
@@ -37,7 +37,7 @@ impl Cursor<'_> {
         self.node(alloc)
     }
 
-    /// Takes a graph label and the dot.
+    // Takes a graph label and the dot.
     #[tactic(auto, unfolding(crate::specs::Outcomes::named_of))]
     fn named(&mut self, alloc: Global) -> Result<Option<Term>, Fault>
         ensures { Gives (λ graph. (graph, self.new)) result (named_of absolute_iris self.old) }
@@ -48,7 +48,7 @@ impl Cursor<'_> {
         Ok(Some(name))
     }
 
-    /// Takes the graph label, where there is one, and the dot.
+    // Takes the graph label, where there is one, and the dot.
     #[tactic(auto, unfolding(crate::specs::Outcomes::graph_of))]
     fn graph(&mut self, alloc: Global) -> Result<Option<Term>, Fault>
         ensures { Gives (λ graph. (graph, self.new)) result (graph_of absolute_iris self.old) }
@@ -61,7 +61,7 @@ impl Cursor<'_> {
         self.named(alloc)
     }
 
-    /// Takes a statement, its dot and an optional comment, which end the line.
+    // Takes a statement, its dot and an optional comment, which end the line.
     #[tactic(auto, unfolding(crate::specs::Outcomes::statement_of))]
     fn statement(&mut self, alloc: Global) -> Result<Quad, Fault>
         ensures { Gives (λ quad. quad) result (statement_of absolute_iris self.old) }
@@ -85,8 +85,8 @@ impl Cursor<'_> {
         })
     }
 
-    /// Takes the sign of a line and its space, and says whether the line adds. No sign means that
-    /// it does.
+    // Takes the sign of a line and its space, and says whether the line adds. No sign means that
+    // it does.
     #[tactic(auto, unfolding(def_patch_texts::specs::Reading::sign_at))]
     fn sign(&mut self) -> Result<bool, Fault>
         ensures { Gives (λ add. (add, self.new)) result (expected (sign_at self.old)) }
@@ -104,7 +104,7 @@ impl Cursor<'_> {
         Ok(true)
     }
 
-    /// Takes a sign and a statement.
+    // Takes a sign and a statement.
     #[tactic(auto, unfolding(crate::specs::Outcomes::signed_of))]
     fn signed(&mut self, alloc: Global) -> Result<Signed, Fault>
         ensures { Gives (λ signed. Some signed) result (signed_of absolute_iris self.old) }

@@ -6,10 +6,10 @@ use lf_rdf::{Patch, QuadList};
 use std::alloc::Global;
 use std::test::*;
 
-/// The most bytes of a patch text.
+// The most bytes of a patch text.
 const TEXT_LIMIT: usize = 67_108_864;
 
-/// The most bytes of a line.
+// The most bytes of a line.
 const LINE_LIMIT: usize = 1_048_576;
 
 fn read(alloc: Global, text: &[u8]) -> Option<Patch> {
@@ -29,7 +29,7 @@ fn first_bad(alloc: Global, text: &[u8]) -> Option<(u64, LineKind)> {
     }
 }
 
-/// The signs of a patch's lines, and their quads.
+// The signs of a patch's lines, and their quads.
 fn parts(alloc: Global, patch: Patch) -> Result<(String, QuadList), Memory> {
     let Patch { lines, bytes: _ } = patch;
     let mut signs = String::new(alloc);
@@ -54,6 +54,11 @@ fn reads_lines_and_writes_them(rt: HostRuntime) -> Result<(), Fail> {
             "- _:a.b <http://e/p> _:c.",
             "-",
             "_:a.b <http://e/p> _:c .\n",
+        ),
+        (
+            "_:a..b <http://e/p> _:a..b .",
+            "+",
+            "_:a..b <http://e/p> _:a..b .\n",
         ),
         ("", "", ""),
         (" \t# nothing\r\r\n\n", "", ""),

@@ -1,11 +1,9 @@
-use Rattle.std.proofs.Common.{◌≡◌, ◌≤◌, ◌+◌, ℕ, List, length, take, drop, Ok, Err, refl, sym, ap, subst, ◌∙◌, arith}
-use Rattle.std.specs.List.{prefix_len}
+use Rattle.std.proofs.Common.{length, Ok, Err, refl, sym}
 use Rattle.std.proofs.lemmas.Result.{err_from_is_err_and}
 use Rattle.std.proofs.lemmas.List.Sums.{prefix_len-le-length}
-use Rattle.def_patch_texts.specs.PatchText.{IsPatchText}
 use Rattle.def_patch_texts.proofs.StatesGiven.{states_given}
 use Rattle.lf_nquads.specs.Patches.{is_inside}
-use Rattle.lf_nquads.proofs.PatchProofs.{Sound, goes_on, is_whole, bad_answer, finds_all, names_all}
+use Rattle.lf_nquads.proofs.PatchProofs.{goes_on, is_whole, bad_answer, finds_all, names_all}
 use Rattle.lf_nquads.proofs.patch.read_patch.Goals as goal
 
 pub split_at-requires : goal.split_at-requires

@@ -1,10 +1,7 @@
-use Rattle.std.proofs.Common.{◌≡◌, ◌≤◌, List, ℕ, length, take, sym, ap, subst, ◌∙◌, arith}
+use Rattle.std.proofs.Common.{◌≡◌, List, ℕ, sym, ap, subst, ◌∙◌}
 use Rattle.std.specs.String.{string_bytes}
-use Rattle.std.specs.List.{AllByRecursion}
 use Rattle.std.proofs.lemmas.List.{take_all}
-use Rattle.lf_rdf.specs.Canonical.{line}
-use Rattle.def_patch_texts.specs.Given.{IsGiven}
-use Rattle.def_patch_texts.specs.PatchText.{line_limit, IsPatchText}
+use Rattle.def_patch_texts.specs.PatchText.{IsPatchText}
 use Rattle.lf_nquads.specs.Written.{lines_text, all_added}
 use Rattle.lf_nquads.proofs.WrittenProofs.{writes_more, written_reads_back, if_ok_passes}
 use Rattle.lf_nquads.proofs.write.write_quads.Goals as goal

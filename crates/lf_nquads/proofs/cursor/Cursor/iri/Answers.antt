@@ -1,7 +1,4 @@
-use Rattle.std.proofs.Common.{◌≡◌, Bool, true, cond, List, ℕ, Ok, Err, sym, ap, subst, ◌∙◌}
-use Rattle.std.specs.Str.{IsUtf8, chars}
-use Rattle.def_patch_texts.specs.Characters.{is_absolute}
-use Rattle.lf_nquads.proofs.Readers.{iri_ends, iri_is_absolute, iri_is_relative}
+use Rattle.lf_nquads.proofs.Readers.{iri_is_absolute, iri_is_relative}
 use Rattle.lf_nquads.proofs.cursor.Cursor.iri.Goals as goal
 
 pub returns-then-not-is_absolute : goal.returns-then-not-is_absolute

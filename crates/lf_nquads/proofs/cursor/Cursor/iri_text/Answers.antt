@@ -1,4 +1,4 @@
-use Rattle.std.proofs.Common.{◌≡◌, true, List, ℕ, sym, ap, ◌∙◌}
+use Rattle.std.proofs.Common.{sym, ◌∙◌}
 use Rattle.lf_nquads.proofs.Readers.{iri_in_one}
 use Rattle.lf_nquads.proofs.cursor.Cursor.iri_text.Goals as goal
 

@@ -3,7 +3,7 @@ use Rattle.std.specs.Prelude.{encode_utf8_all}
 use Rattle.std.specs.List.{prefix_len}
 use Rattle.std.specs.Str.{IsCharBoundary, is_utf8, chars}
 use Rattle.def_patch_texts.specs.Characters.{is_iri_char}
-use Rattle.lf_nquads.proofs.Places.{CutsFront, cuts_front, iri_passes_high}
+use Rattle.lf_nquads.proofs.Places.{cuts_front, iri_passes_high}
 use Rattle.lf_nquads.proofs.cursor.Cursor.raw_iri.Goals as goal
 
 pub split_at-requires : goal.split_at-requires

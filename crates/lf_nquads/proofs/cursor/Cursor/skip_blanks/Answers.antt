@@ -1,4 +1,4 @@
-use Rattle.std.proofs.Common.{◌≡◌, sym, ◌∙◌}
+use Rattle.std.proofs.Common.{sym, ◌∙◌}
 use Rattle.lf_nquads.proofs.Places.{skip_next, next_shorter, skip_none}
 use Rattle.lf_nquads.proofs.cursor.Cursor.skip_blanks.Goals as goal
 

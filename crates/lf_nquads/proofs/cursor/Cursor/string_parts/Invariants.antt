@@ -1,4 +1,4 @@
-use Rattle.std.proofs.Common.{◌≡◌, length}
+use Rattle.std.proofs.Common.{length}
 use Rattle.std.specs.String.{string_bytes}
 use Rattle.def_patch_texts.specs.PatchText.{absolute_iris}
 use Rattle.lf_nquads.specs.Outcomes.{string_part_of}

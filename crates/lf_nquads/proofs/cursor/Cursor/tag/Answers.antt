@@ -1,4 +1,4 @@
-use Rattle.std.proofs.Common.{◌≡◌, List, ℕ, map, sym, ap, ◌∙◌}
+use Rattle.std.proofs.Common.{map, ap, ◌∙◌}
 use Rattle.std.specs.Char.{to_ascii_lowercase}
 use Rattle.lf_nquads.proofs.Readers.{tag_lowers}
 use Rattle.lf_nquads.proofs.cursor.Cursor.tag.Goals as goal

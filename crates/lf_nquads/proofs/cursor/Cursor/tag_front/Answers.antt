@@ -1,4 +1,4 @@
-use Rattle.std.proofs.Common.{◌≡◌, Bool, false, true, List, ℕ, length, sym, subst, ◌∙◌}
+use Rattle.std.proofs.Common.{◌≡◌, false, List, ℕ, length, sym, subst, ◌∙◌}
 use Rattle.std.specs.Prelude.{nat_eq, ◌||◌}
 use Rattle.std.proofs.lemmas.Bool.{eqb-true, eqb-false, ne_eqb, eq-eqb}
 use Rattle.lf_nquads.specs.Scanning.{first_is, is_tag_char}

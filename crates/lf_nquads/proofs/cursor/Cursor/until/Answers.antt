@@ -1,5 +1,4 @@
-use Rattle.std.proofs.Common.{◌≡◌, ◌++◌, List, ℕ, sym, ap, ◌∙◌}
-use Rattle.std.specs.Str.{chars}
+use Rattle.std.proofs.Common.{◌++◌, List, ℕ, sym, ap, ◌∙◌}
 use Rattle.lf_nquads.proofs.Places.{seam_before, seam_boundary, seam_text}
 use Rattle.lf_nquads.proofs.cursor.Cursor.until.Goals as goal
 

@@ -15,8 +15,11 @@ use std::alloc::Global;
 use std::mem;
 use std::sync::Arc;
 
-// How far a page is filled that is built, so that later pairs find room in it.
+// How many pairs a page gets that is built, so that later ones find room in it.
 const FILL: usize = 48;
+
+// How many pages a middle page gets that is built.
+const MIDDLE_FILL: usize = 96;
 
 // One page more at the end.
 fn close_page<K: Drop, V: Drop>(
@@ -108,7 +111,7 @@ pub fn middles_of<K: Ord + Drop, V: Drop>(
     let mut gathered = Vec::new(alloc);
     for page in pages {
         gathered.push(page)?;
-        if gathered.len() >= FILL {
+        if gathered.len() >= MIDDLE_FILL {
             let full = mem::replace(&mut gathered, Vec::new(alloc));
             close_middle(alloc, &mut middles, full)?;
         }

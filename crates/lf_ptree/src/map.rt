@@ -16,9 +16,10 @@ use std::sync::Arc;
 
 /// An ordered map. Contracts see the list of its pairs in order of their keys.
 ///
-/// A map doesn't change: `insert` and `remove` give another one, which shares all pages but those on the way to the key, and
-/// every pair. It has three levels of pages of up to 64 entries. For n pairs a look takes some log n comparisons. A change
-/// takes them too, and copies a page of pairs, a page of pages, and the root, which has one handle for some 1,000 to 4,096 pairs.
+/// A map doesn't change: `insert` and `remove` give another one, which shares all pages but those on the way
+/// to the key, and every pair. It has three levels: pages of up to 64 pairs, pages of up to 128 pages, and
+/// the root, which has a handle for some 2,000 to 8,192 pairs. For n pairs a look takes some log n
+/// comparisons. A change takes them too, and copies a page of each level.
 #[derive(Drop)]
 pub struct PMap<K: Ord, V> {
     middles: Vec<Arc<Middle<K, V>>>,

@@ -13,8 +13,9 @@ use std::alloc::Global;
 use std::cmp::Ordering;
 use std::sync::Arc;
 
-// The most pages of a middle page. The proof of `with_middle` names the half of it.
-const MIDDLE: usize = 64;
+// The most pages of a middle page. They are many, so that the root, which each change copies, has few handles. The proof of
+// `with_middle` names the half of it.
+const MIDDLE: usize = 128;
 
 /// A page of pages.
 #[derive(Drop)]

@@ -12,7 +12,7 @@ loop-page-preserved-in-Continue-branch-2 g c =
     let full : Middle g.row.K.Denot g.row.V.Denot = record { pages = c.replace-full.result } in
     gathering_closed c.loop-page.middles.items _ c.push.new.self.items _ _ _ full
     (gathering_more c.loop-page.middles.items c.loop-page.gathered.items _ _ _ _ c.in-Some.page c.loop-page.invariant (search rules) (search rules))
-    (omega (arith, c.len.ensures, c.if-len-ge-FILL.true))
+    (omega (arith, c.len.ensures, c.if-len-ge-MIDDLE_FILL.true))
     (ap (λ v. v.items) c.replace-full.ensures.value)
     (search rules)
     (search rules)

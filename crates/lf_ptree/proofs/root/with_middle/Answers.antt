@@ -25,7 +25,7 @@ returns-clause-rebuilt g c =
     let ps = c.args.pages.items in
     let lower = c.split_off.new.self.items in
     let upper = c.in_ok-upper.upper.items in
-    let parts : ps ≡ lower ++ upper = sym (take-append-drop 32 ps) ∙ ap (λ l. l ++ drop 32 ps) (sym c.in_ok-upper.ensures.items) ∙ ap (λ l. lower ++ l) (sym c.in_ok-upper.ensures.tail) in
+    let parts : ps ≡ lower ++ upper = sym (take-append-drop 64 ps) ∙ ap (λ l. l ++ drop 64 ps) (sym c.in_ok-upper.ensures.items) ∙ ap (λ l. lower ++ l) (sym c.in_ok-upper.ensures.tail) in
     let within : c.args.at < length gs = rw (length-map, length-map) c.requires.in_range in
     let whole : flat ps ≡ flat lower ++ flat upper = ap flat parts ∙ flat-append lower upper in
     let some_low : HasPair (flat lower) = full_has_pair lower (omega (arith, c.in_ok-upper.ensures.len, c.len.ensures, c.if-len-le-MIDDLE.false)) (full_front lower upper ps parts c.requires.full) in
@@ -45,7 +45,7 @@ returns-clause-full g c =
     let ps = c.args.pages.items in
     let lower = c.split_off.new.self.items in
     let upper = c.in_ok-upper.upper.items in
-    let parts : ps ≡ lower ++ upper = sym (take-append-drop 32 ps) ∙ ap (λ l. l ++ drop 32 ps) (sym c.in_ok-upper.ensures.items) ∙ ap (λ l. lower ++ l) (sym c.in_ok-upper.ensures.tail) in
+    let parts : ps ≡ lower ++ upper = sym (take-append-drop 64 ps) ∙ ap (λ l. l ++ drop 64 ps) (sym c.in_ok-upper.ensures.items) ∙ ap (λ l. lower ++ l) (sym c.in_ok-upper.ensures.tail) in
     let above : Middle g.row.K.Denot g.row.V.Denot = record { pages = c.in_ok-upper.upper } in
     IfOk-weaker c.insert_at.result _ _ (λ made e full.
     full_insert c.in_ok-halved.halved.items made.items (c.args.at + 1) above (e ∙ ap (λ hs. insert (map arc_value hs) (c.args.at + 1) above) c.as_slice.ensures.value) (full_back lower upper ps parts c.requires.full)

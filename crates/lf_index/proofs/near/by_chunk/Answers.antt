@@ -1,10 +1,8 @@
-use Rattle.std.proofs.Common.{◌≡◌, List, sym, ap, ◌∙◌}
+use Rattle.std.proofs.Common.{sym, ap, ◌∙◌}
 use Rattle.std.specs.List.{list_any}
 use Rattle.std.proofs.lemmas.Result.{IfOk-weaker}
 use Rattle.std.proofs.lemmas.List.Sorted.{list_any-IsPermutation}
 use Rattle.def_datasets.proofs.ViewProofs.{any-map}
-use Rattle.lf_index.specs.declared.near.Marked.{Marked}
-use Rattle.lf_index.specs.Near.{values_of}
 use Rattle.lf_index.proofs.near.by_chunk.Goals as goal
 
 pub returns : goal.returns

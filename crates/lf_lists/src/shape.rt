@@ -205,7 +205,8 @@ fn lacks_form(quads: &[Quad]) -> bool
     !has_list_form(quads)
 }
 
-// The rest of a blank node that has the form of a list node, by up to three questions.
+// The rest of a blank node that has the form of a list node, by up to three questions. Its uses, of
+// which there may be many, are asked for only where its own quads are those of a list node.
 fn blank_rest<O: Oracle, L: Ledger>(
     alloc: Global,
     oracle: &mut O,
@@ -223,12 +224,12 @@ fn blank_rest<O: Oracle, L: Ledger>(
     if named {
         return Ok(None);
     }
-    let uses = quads_using(alloc, oracle, node, steps)?;
-    if is_misused(graph, uses.as_slice()) {
-        return Ok(None);
-    }
     let told = quads_out(alloc, oracle, graph, node, steps)?;
     if lacks_form(told.as_slice()) {
+        return Ok(None);
+    }
+    let uses = quads_using(alloc, oracle, node, steps)?;
+    if is_misused(graph, uses.as_slice()) {
         return Ok(None);
     }
     let rest = rest_among(alloc, told.as_slice())?;

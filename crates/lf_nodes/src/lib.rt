@@ -14,4 +14,7 @@ mod tests;
 mod values;
 mod view;
 
+pub use members::members_of;
 pub use nodes_over::NodesOver;
+pub use pointing::pointing_by;
+pub use view::view_of;

@@ -240,7 +240,7 @@ fn merged_keys<O: Oracle, L: Ledger>(
 /// The keys of a graph, in order of their ids. One question gives its nodes; of a blank node a few
 /// more tell whether it is a cell. For the merged graph each node of the default graph is asked
 /// whether it names a graph.
-pub(crate) fn members_of<O: Oracle, L: Ledger>(
+pub fn members_of<O: Oracle, L: Ledger>(
     alloc: Global,
     oracle: &mut O,
     graph: &GraphRef,

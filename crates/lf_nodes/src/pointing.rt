@@ -304,7 +304,7 @@ fn pointing_to<O: Oracle, L: Ledger>(
 }
 
 /// The keys that point at a node under a property, which is an IRI.
-pub(crate) fn pointing_by<O: Oracle, L: Ledger>(
+pub fn pointing_by<O: Oracle, L: Ledger>(
     alloc: Global,
     oracle: &mut O,
     graph: &GraphRef,

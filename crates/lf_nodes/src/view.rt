@@ -91,7 +91,7 @@ fn quads_of<O: Oracle, L: Ledger>(
 }
 
 /// The view of a node, or none where it is no key of the graph.
-pub(crate) fn view_of<O: Oracle, L: Ledger>(
+pub fn view_of<O: Oracle, L: Ledger>(
     alloc: Global,
     oracle: &mut O,
     graph: &GraphRef,

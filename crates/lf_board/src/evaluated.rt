@@ -13,8 +13,8 @@ use lf_base::{Memory, Steps};
 use lf_doc::assemble;
 use lf_embed::outcomes_of;
 use lf_index::Index;
+use lf_kept::KeptNodes;
 use lf_model::{Doc, Frame, OutcomeList};
-use lf_nodes::NodesOver;
 use lf_rdf::TermList;
 use lf_versions::Version;
 use std::alloc::Global;
@@ -40,8 +40,7 @@ fn outcomes_over<L: Ledger>(
 ) -> Result<OutcomeList, Memory>
     ensures { IfOk result (λ outcomes. map outcome_data outcomes ≡ map (outcome (of_dataset index.now) frame.now) terms.now) }
 {
-    let mut asker = index.asker();
-    let mut nodes = NodesOver::new(&mut asker);
+    let mut nodes = KeptNodes::new(alloc, index.asker());
     outcomes_of(alloc, &mut nodes, frame, terms, steps)
 }
 

@@ -10,8 +10,8 @@ use lf_base::{Memory, Steps};
 use lf_doc::assemble;
 use lf_embed::outcomes_of;
 use lf_index::Index;
+use lf_kept::KeptNodes;
 use lf_model::{Doc, Frame, OutcomeList};
-use lf_nodes::NodesOver;
 use std::alloc::Global;
 use std::marker::Brand;
 use std::sync::ledger::{Blank, Ledger};
@@ -30,8 +30,7 @@ fn all_outcomes<L: Ledger>(
 {
     let mut steps: Steps<L> = Steps::of(blank);
     let terms = index.terms(alloc)?;
-    let mut asker = index.asker();
-    let mut nodes = NodesOver::new(&mut asker);
+    let mut nodes = KeptNodes::new(alloc, index.asker());
     outcomes_of(alloc, &mut nodes, frame, &terms, &mut steps)
 }
 

@@ -1,4 +1,4 @@
-use Rattle.std.proofs.Common.{◌≡◌, IfOk, List, ap, map, subst, ◌∙◌}
+use Rattle.std.proofs.Common.{◌≡◌, IfOk, List, map, subst, ◌∙◌}
 use Rattle.lf_rdf.specs.declared.quad.Quad.{Quad}
 use Rattle.def_framing.specs.Outcome.{outcome}
 use Rattle.def_framing.specs.OutcomeBridge.{outcome_data}
@@ -7,6 +7,6 @@ use Rattle.lf_board.proofs.evaluated.outcomes_over.Goals as goal
 
 pub returns : goal.returns
 returns g c =
-    let quads : c.new-nodes.result.oracle.now.index.now ≡ c.args.index.now = ap (λ a. a.index.now) c.new-nodes.ensures.same ∙ c.asker-asker.ensures in
+    let quads : c.new-nodes.result ≡ c.args.index.now = c.new-nodes.ensures ∙ c.asker.ensures in
     subst (λ (d : List Quad). IfOk c.outcomes_of.result (λ outcomes. map outcome_data outcomes ≡ map (outcome (of_dataset d) c.args.frame.now) c.args.terms.now)) quads
     c.outcomes_of.ensures.outcomes

@@ -14,3 +14,4 @@ mod tests;
 mod top;
 
 pub use assembly::assemble;
+pub use limits::room_left;

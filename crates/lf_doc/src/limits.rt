@@ -3,6 +3,7 @@ ghost use Rattle.std.specs.Prelude.{◌≡◌, map, length};
 ghost use Rattle.def_framing.specs.OutcomeBridge.{outcome_data};
 ghost use Rattle.def_documents.specs.Document.{gathered};
 ghost use Rattle.lf_doc.specs.Gathering.{gathered_by, trees_of};
+ghost use Rattle.lf_doc.specs.Room.{room_of};
 
 use crate::items::tree_room;
 use def_documents::item_limit;
@@ -25,4 +26,19 @@ pub fn first_limit(outcomes: &OutcomeList) -> Option<Limit>
         }
     }
     None
+}
+
+/// The room for items that an outcome leaves of some room, or none where it decides the document: by
+/// a limit of its own, or since its tree has more items than there is room. From the room of 262,144
+/// items on, what comes behind the first such outcome changes nothing, so whoever makes a document's
+/// outcomes one after another may stop at it.
+pub fn room_left(outcome: &Outcome, room: u64) -> Option<u64>
+    ensures { result ≡ room_of (outcome_data outcome.now) room }
+{
+    match outcome {
+        Outcome::NotKey => Some(room),
+        Outcome::NoMatch => Some(room),
+        Outcome::Over(_) => None,
+        Outcome::Matched(tree) => tree_room(tree, room),
+    }
 }

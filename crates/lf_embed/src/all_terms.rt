@@ -40,8 +40,26 @@ fn is_in(alloc: Global, set: &BTreeSet<ById>, term: &Term) -> Result<bool, Memor
     Ok(set.contains(&one))
 }
 
-// The outcome of a term, by the keys of the framed graph. Of a term that is no key nothing is asked.
-fn outcome_among<N: Nodes, L: Ledger>(
+/// The keys of the framed graph of a frame, as a set, by one call. By them [`outcome_among`] tells
+/// the outcomes of terms.
+pub fn framed_keys<N: Nodes, L: Ledger>(
+    alloc: Global,
+    nodes: &mut N,
+    frame: &Frame,
+    steps: &mut Steps<L>,
+) -> Result<BTreeSet<ById>, Memory>
+    ensures keys { IfOk result (λ known. AreKeys known.keys (keys (N.quads nodes.old) (framed_graph frame.now.top_graph))) }
+    ensures quads_stay { N.quads nodes.new ≡ N.quads nodes.old }
+{
+    let graph = framed_graph(frame.top_graph);
+    let listed = nodes.members(alloc, &graph, steps)?;
+    let known = set_of(alloc, listed.as_slice())?;
+    Ok(known)
+}
+
+/// The outcome of a term by a frame, by the keys of the framed graph (JSON-LD 1.1 Framing, section
+/// 4.2.1). Of a term that is no key, as a cell of a list, nothing is asked.
+pub fn outcome_among<N: Nodes, L: Ledger>(
     alloc: Global,
     nodes: &mut N,
     frame: &Frame,
@@ -96,9 +114,7 @@ pub fn outcomes_of<N: Nodes, L: Ledger>(
     ensures outcomes { IfOk result (λ made. map outcome_data made ≡ map (outcome (of_dataset (N.quads nodes.old)) frame.now) terms.now) }
     ensures quads_stay { N.quads nodes.new ≡ N.quads nodes.old }
 {
-    let graph = framed_graph(frame.top_graph);
-    let listed = nodes.members(alloc, &graph, steps)?;
-    let known = set_of(alloc, listed.as_slice())?;
+    let known = framed_keys(alloc, nodes, frame, steps)?;
     let made = outcomes_among(alloc, nodes, frame, &known, terms.as_slice(), steps)?;
     Ok(made)
 }

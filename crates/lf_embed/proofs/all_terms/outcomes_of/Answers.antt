@@ -7,4 +7,4 @@ use Rattle.lf_embed.proofs.all_terms.outcomes_of.Goals as goal
 pub returns-clause-outcomes : goal.returns-clause-outcomes
 returns-clause-outcomes g c =
     c.in_ok-made.ensures.outcomes
-    ∙ (λ i. map (outcome (of_dataset (c.members.ensures.quads_stay i)) c.args.frame.now) (c.as_slice-2.ensures i))
+    ∙ (λ i. map (outcome (of_dataset (c.in_ok-known.ensures.quads_stay i)) c.args.frame.now) (c.as_slice.ensures i))

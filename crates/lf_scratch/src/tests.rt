@@ -4,18 +4,19 @@ use lf_base::Memory;
 use lf_expand::{FrameErr, expand_frame};
 use lf_index::{ApplyErr, Index};
 use lf_json::{JsonErr, read_json};
-use lf_model::{Doc, Frame, LdError};
+use lf_model::{Doc, Frame, LdError, Limit};
 use lf_nquads::{LineErr, read_patch};
 use lf_rdf::Patch;
 use std::alloc::Global;
 use std::test::Fail;
 
-/// Whether a document is this text, or has the name of this error.
+/// Whether a document is this text, or has the name of this error or limit.
 fn is_shown(doc: &Doc, expected: &str) -> bool {
     match doc {
         Doc::Bytes(text) => text.as_str() == expected,
         Doc::Refused(LdError::IriConfusedWithPrefix) => expected == "IRI confused with prefix",
         Doc::Refused(_) => false,
+        Doc::Over(Limit::Depth) => expected == "depth",
         Doc::Over(_) => false,
     }
 }
@@ -31,7 +32,7 @@ fn prints_over(
 }
 
 fn read_data(alloc: Global, data: &str) -> Result<Patch, Memory> {
-    if data.len() > 1000 {
+    if data.len() > 100_000 {
         return Err(Memory);
     }
     match read_patch(alloc, data.as_bytes()) {
@@ -206,6 +207,56 @@ fn default_values(rt: HostRuntime) -> Result<(), Fail> {
             "{\"@context\":{\"p\":{\"@id\":\"http://e/p\",\"@container\":\"@set\"}},\"@id\":\"http://e/a\",\"p\":{\"@value\":\"y\"}}",
             ONE_QUAD,
             "{\"@context\":{\"p\":{\"@container\":\"@set\",\"@id\":\"http://e/p\"}},\"@id\":\"http://e/a\",\"p\":[]}"
+        )?
+    );
+    Ok(())
+}
+
+fn put_name(data: &mut String, length: u64) -> Result<(), Memory> {
+    data.push_str("<x:")?;
+    for _letter in 0..length {
+        data.push_str("a")?;
+    }
+    data.push_str(">")?;
+    Ok(())
+}
+
+fn put_link(data: &mut String, from: u64, to: u64) -> Result<(), Memory> {
+    put_name(data, from)?;
+    data.push_str(" <x:p> ")?;
+    put_name(data, to)?;
+    data.push_str(" .\n")?;
+    Ok(())
+}
+
+/// A chain of one node more than there are links, each with a name longer by a letter.
+fn chain(alloc: Global, links: u64) -> Result<String, Memory> {
+    let mut data = String::new(alloc);
+    let mut next = 1;
+    for link in 0..links {
+        put_link(&mut data, link, next)?;
+        next = link.saturating_add(2);
+    }
+    Ok(data)
+}
+
+/// Whether a node of a chain has this document, or limit.
+fn chain_is(alloc: Global, links: u64, frame: &str, expected: &str) -> Result<bool, Memory> {
+    let data = chain(alloc, links)?;
+    prints(alloc, frame, data.as_str(), expected)
+}
+
+#[test]
+fn a_tree_past_the_depth_decides(rt: HostRuntime) -> Result<(), Fail> {
+    let alloc = rt.alloc();
+    assert!(rt; chain_is(alloc, 256, "{}", "depth")?);
+    assert!(rt; !chain_is(alloc, 255, "{}", "depth")?);
+    assert!(rt;
+        chain_is(
+            alloc,
+            256,
+            "{\"@id\":\"x:aaa\",\"@embed\":\"@never\"}",
+            "{\"@id\":\"x:aaa\",\"x:p\":{\"@id\":\"x:aaaa\"}}"
         )?
     );
     Ok(())

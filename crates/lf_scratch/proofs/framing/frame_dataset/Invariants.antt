@@ -1,4 +1,4 @@
 use Rattle.lf_scratch.proofs.framing.frame_dataset.Given as goal
 
-abbrev pub ghosts-all_outcomes : goal.ghosts-all_outcomes
-ghosts-all_outcomes a = record { name = a.blank.name; parts = a.blank.parts }
+abbrev pub ghosts-deciding_outcomes : goal.ghosts-deciding_outcomes
+ghosts-deciding_outcomes a = record { name = a.blank.name; parts = a.blank.parts }

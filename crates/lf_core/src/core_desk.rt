@@ -1,5 +1,6 @@
 //! The desk of a program that serves one stream: one seat alone at a state.
-ghost use Rattle.std.specs.Prelude.{◌≡◌, true};
+ghost use Rattle.std.proofs.Common.{sym};
+ghost use Rattle.std.specs.Prelude.{◌≡◌, refl, [], None, true};
 ghost use Rattle.def_histories.specs.Legal.{IsLegal};
 ghost use Rattle.def_histories.specs.LegalProp.{is_legal-prop};
 ghost use Rattle.lf_frames.specs.FrameTexts.{is_frame};
@@ -48,6 +49,10 @@ impl Desk for CoreDesk {
 
     ghost history = { λ desk. desk.state };
 
+    ghost away = { λ _. [] };
+
+    ghost taken = { λ _. None };
+
     fn commit(&mut self, alloc: Global, patch: Patch) -> Result<u64, CommitErr> {
         self.state.commit(alloc, self.seat, patch)
     }
@@ -73,4 +78,8 @@ impl Desk for CoreDesk {
     }
 
     ghost legal = { λ desk. desk.legal };
+
+    ghost tells_taken = { λ _ e. sym e };
+
+    ghost away_are_live = { λ _. refl };
 }

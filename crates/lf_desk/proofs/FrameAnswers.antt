@@ -1,6 +1,6 @@
 -- A registration is answered as new exactly where it is allowed, and as no operation where its text is live.
-use Rattle.std.proofs.Common.{◌≡◌, refl, sym, ◌∙◌, ap, ℕ, ◌+◌, ◌≤◌, List, length, nat_lt, Bool, true, false, not, cond, Some, Result, Ok, Err}
-use Rattle.std.proofs.lemmas.Bool.{false≢true, not-true, not-false, not_from_true, not_from_false, false_from_ne_true, ltb-false, ltb-true, lt-ltb, le-ltb}
+use Rattle.std.proofs.Common.{◌≡◌, refl, sym, ◌∙◌, ap, ℕ, ◌+◌, List, length, nat_lt, Bool, true, false, not, cond, Some, Result, Ok, Err}
+use Rattle.std.proofs.lemmas.Bool.{false≢true, not-false, not_from_true, false_from_ne_true, ltb-false, ltb-true, lt-ltb, le-ltb}
 use Rattle.std.specs.Cmp.Lexicographic.{bytes_decides}
 use Rattle.def_datasets.proofs.OrderLaws.{option_decides}
 use Rattle.lf_rdf.specs.Equality.{text_eq}

@@ -1,3 +1,4 @@
 pub mod Passing
 pub mod PatchAnswers
 pub mod FrameAnswers
+pub mod Found

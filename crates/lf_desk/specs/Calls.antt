@@ -6,6 +6,7 @@ use Rattle.def_histories.specs.declared.operation.Operation.TheVariants.{Retire}
 use Rattle.def_histories.specs.History.{live}
 use Rattle.def_histories.specs.Legal.{IsLegal}
 use Rattle.lf_frames.specs.FrameTexts.{is_frame}
+use Rattle.def_turns.specs.Turns.{still_live}
 use Rattle.lf_desk.specs.Seats.{IsExtended}
 
 -- The histories before and after a call, what it made, and what its answer says of the history that it saw.
@@ -26,3 +27,7 @@ abbrev pub retired_by : ℕ → List ℕ → Result Bool Memory → List Operati
 retired_by seat name (Ok true) = Retire seat name ∷ []
 retired_by seat name (Ok false) = []
 retired_by seat name (Err refused) = []
+
+-- with a seat that is alone the texts away stay, but those that are no longer live
+abbrev pub StaysAway : Bool → List Operation → List ℕ → List ℕ → Type 0
+StaysAway alone history before after = alone ≡ true → after ≡ still_live history before

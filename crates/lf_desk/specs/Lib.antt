@@ -5,3 +5,4 @@ pub mod Seats
 pub mod Calls
 pub mod AnswerLaws
 pub mod WorkedAnswers
+pub mod Rotas

@@ -1,5 +1,5 @@
 -- Worked answers, which compute.
-use Rattle.std.specs.Prelude.{◌≡◌, refl, List, [], ◌∷◌, ℕ, true, false, None, Ok, Err, codes}
+use Rattle.std.specs.Prelude.{◌≡◌, refl, List, [], ◌∷◌, ℕ, true, false, Ok, Err, codes}
 use Rattle.lf_rdf.specs.declared.quad.Patch.{Patch}
 use Rattle.lf_model.specs.declared.desk.Counted.TheVariants as counted
 use Rattle.lf_model.specs.declared.error.LdError.TheVariants.{InvalidFrame}

@@ -1,16 +1,16 @@
 -- The frame of a name, its place, and the frames without it.
-use Rattle.std.proofs.Common.{◌≡◌, refl, sym, ◌∙◌, ap, subst, zero, suc, ◌<◌, ℕ, List, [], ◌∷◌, ◌++◌, length, get_or, Bool, true, false, not, cond, Option, Some, None, is_some, is_none, unwrap_or, IsSome, ◌&&◌, nat_lt, arith}
-use Rattle.std.specs.List.{filter, find, list_all, remove, position, position_or_len, slice_get}
-use Rattle.std.proofs.lemmas.Bool.{false≢true, and_parts, ltb-false}
+use Rattle.std.proofs.Common.{◌≡◌, refl, sym, ◌∙◌, ap, subst, zero, suc, ◌<◌, ℕ, List, [], ◌∷◌, ◌++◌, length, get_or, Bool, true, false, not, cond, Option, Some, None, is_some, unwrap_or, IsSome, nat_lt, arith}
+use Rattle.std.specs.List.{filter, find, remove, position, position_or_len, slice_get}
+use Rattle.std.proofs.lemmas.Bool.{false≢true, ltb-false}
 use Rattle.std.proofs.lemmas.List.Folds.{find_at}
 use Rattle.std.proofs.lemmas.Option.{slice_get_past}
 use Rattle.lf_rdf.specs.Equality.{text_eq}
 use Rattle.def_histories.specs.declared.live.Live.{Live}
 use Rattle.def_histories.specs.History.{find_frame, without}
 use Rattle.std.specs.Option.{option_map}
-use Rattle.lf_desk.specs.Looks.{is_new_enough}
 use Rattle.lf_core.specs.declared.frames.Kept.{Kept}
-use Rattle.lf_core.specs.Kept.{live_of, lives, has_name, find_kept, without_kept, IsRead, AreRead}
+use Rattle.lf_versions.specs.declared.commit.Commit.{Commit}
+use Rattle.lf_core.specs.Kept.{live_of, lives, has_name, find_kept, without_kept, IsKept, AreKept}
 
 pub some_from : {A : Type 0} (o : Option A) → is_some o ≡ true → IsSome o
 some_from None e = absurd (false≢true e)
@@ -64,30 +64,6 @@ pub no_place : {X : Type 0} (p : X → Bool) (xs : List X) → position p xs ≡
 no_place p xs e =
     ap is_some (find_at p xs ∙ unplaced p xs (position_or_len p xs) (nat_lt (position_or_len p xs) (length xs)) refl e)
 
--- what is found passes the test that all pass
-all_found : (p q : Live → Bool) (first frame : Live) (rest : List Live) (b : Bool) → (p first && list_all p rest) ≡ true
-    → (list_all p rest ≡ true → find q rest ≡ Some frame → p frame ≡ true) → cond b (Some first) (find q rest) ≡ Some frame
-    → p frame ≡ true
-all_found p q first frame rest true all ih e = ap p (sym (ap (λ (o : Option Live). unwrap_or o first) e)) ∙ (and_parts (p first) (list_all p rest) all).0
-all_found p q first frame rest false all ih e = ih ((and_parts (p first) (list_all p rest) all).1) e
-
-passing : (p q : Live → Bool) (frames : List Live) (frame : Live) → list_all p frames ≡ true → find q frames ≡ Some frame
-    → p frame ≡ true
-passing p q [] frame all e = absurd (false≢true (ap is_some e))
-passing p q (first ∷ rest) frame all e =
-    all_found p q first frame rest (q first) all (passing p q rest frame) e
-
-too_old : (need : ℕ) (published : Option ℕ) → is_none published ≡ true → is_new_enough need published ≡ false
-too_old need None e = refl
-too_old need (Some version) e = absurd (false≢true e)
-
-pub not_new : (name : List ℕ) (frames : List Live) (frame : Live) (need : ℕ)
-    → list_all (λ (one : Live). is_none one.published) frames ≡ true → find_frame name frames ≡ Some frame
-    → is_new_enough need frame.published ≡ false
-not_new name frames frame need all e =
-    too_old need frame.published
-    (passing (λ (one : Live). is_none one.published) (λ (one : Live). text_eq name one.name) frames frame all e)
-
 -- ---- frames beside what their texts mean
 
 find_first : (name : List ℕ) (kept : Kept) (rest : List Kept) (b : Bool)
@@ -121,28 +97,16 @@ pub lives_end : (frames : List Kept) (kept : Kept) → lives (frames ++ kept ∷
 lives_end [] kept = refl
 lives_end (first ∷ rest) kept = ap (λ (w : List Live). first.live ∷ w) (lives_end rest kept)
 
-read_first : (name : List ℕ) (kept : Kept) (rest : List Kept) (b : Bool) → IsRead kept → AreRead (without_kept name rest)
-    → AreRead (cond b (kept ∷ without_kept name rest) (without_kept name rest))
-read_first name kept rest true is all = (is, all)
-read_first name kept rest false is all = all
+found_first : (name : List ℕ) (commits : List Commit) (first kept : Kept) (rest : List Kept) (b : Bool) → IsKept commits first
+    → (find_kept name rest ≡ Some kept → IsKept commits kept) → cond b (Some first) (find_kept name rest) ≡ Some kept → IsKept commits kept
+found_first name commits first kept rest true is ih e = subst (IsKept commits) (ap (λ (o : Option Kept). unwrap_or o first) e) is
+found_first name commits first kept rest false is ih e = ih e
 
-pub read_left : (name : List ℕ) (frames : List Kept) → AreRead frames → AreRead (without_kept name frames)
-read_left name [] all = tt
-read_left name (kept ∷ rest) all = read_first name kept rest (not (has_name name kept)) all.0 (read_left name rest all.1)
-
-pub read_end : (frames : List Kept) (kept : Kept) → AreRead frames → IsRead kept → AreRead (frames ++ kept ∷ [])
-read_end [] kept all is = (is, tt)
-read_end (first ∷ rest) kept all is = (all.0, read_end rest kept all.1 is)
-
-found_first : (name : List ℕ) (first kept : Kept) (rest : List Kept) (b : Bool) → IsRead first
-    → (find_kept name rest ≡ Some kept → IsRead kept) → cond b (Some first) (find_kept name rest) ≡ Some kept → IsRead kept
-found_first name first kept rest true is ih e = subst IsRead (ap (λ (o : Option Kept). unwrap_or o first) e) is
-found_first name first kept rest false is ih e = ih e
-
-pub found_read : (name : List ℕ) (frames : List Kept) (kept : Kept) → AreRead frames → find_kept name frames ≡ Some kept → IsRead kept
-found_read name [] kept all e = absurd (false≢true (ap is_some e))
-found_read name (first ∷ rest) kept all e =
-    found_first name first kept rest (has_name name first) all.0 (found_read name rest kept all.1) e
+pub found_is : (name : List ℕ) (commits : List Commit) (frames : List Kept) (kept : Kept) → AreKept commits frames → find_kept name frames ≡ Some kept
+    → IsKept commits kept
+found_is name commits [] kept all e = absurd (false≢true (ap is_some e))
+found_is name commits (first ∷ rest) kept all e =
+    found_first name commits first kept rest (has_name name first) all.0 (found_is name commits rest kept all.1) e
 
 -- what is found is live
 pub found_live : (name : List ℕ) (frames : List Kept) (kept : Kept) → find_kept name frames ≡ Some kept

@@ -1,15 +1,15 @@
 -- What trying a registration and a commit comes to before the state changes.
-use Rattle.std.specs.Prelude.{◌≡◌, ◌<◌, List, ℕ, ◌+◌, nat_lt, length, Bool, true, false, not, if◌then◌else◌, Option, Some, None, Result, Ok, Err}
-use Rattle.lf_rdf.specs.declared.quad.Quad.{Quad}
-use Rattle.lf_rdf.specs.declared.quad.Signed.{Signed}
+use Rattle.std.specs.Prelude.{◌≡◌, List, ℕ, ◌+◌, nat_lt, Bool, true, false, not, if◌then◌else◌, Option, Some, None, Result, Ok, Err}
 use Rattle.lf_model.specs.declared.desk.Counted.TheVariants.{Commits, Bytes}
 use Rattle.lf_model.specs.declared.frame.Frame.{Frame}
 use Rattle.def_contexts.specs.FrameValues.{frame_meaning}
-use Rattle.def_datasets.specs.Dataset.{after}
 use Rattle.lf_frames.specs.FrameTexts.{FrameText, accepted}
 use Rattle.def_histories.specs.declared.operation.Operation.{Operation}
 use Rattle.def_histories.specs.History.{commits, text_bytes}
-use Rattle.def_histories.specs.Legal.{most_commits, most_text_bytes, most_quads}
+use Rattle.def_histories.specs.Legal.{most_commits, most_text_bytes}
+use Rattle.lf_versions.specs.declared.commit.Commit.{Commit}
+use Rattle.lf_versions.specs.declared.error.VersionErr.{VersionErr}
+use Rattle.lf_versions.specs.declared.error.VersionErr.TheVariants as v
 use Rattle.lf_desk.specs.declared.refusals.CommitErr.{CommitErr}
 use Rattle.lf_desk.specs.declared.refusals.CommitErr.TheVariants as c
 use Rattle.lf_desk.specs.declared.refusals.RegisterErr.{RegisterErr}
@@ -34,9 +34,12 @@ history_answer history bytes =
     then Err (c.HistoryFull Bytes (text_bytes history) most_text_bytes)
     else Ok tt
 
--- a patch on a dataset makes more quads than a version may have, or no memory was found
-abbrev pub IsTooMany : List Quad → List Signed → CommitErr → Type 0
-IsTooMany dataset lines (c.TooManyQuads have would) =
-    (most_quads < length (after dataset lines)) × (have ≡ length dataset) × (would ≡ length (after dataset lines))
-IsTooMany dataset lines c.Memory = Unit {0}
-IsTooMany dataset lines (c.HistoryFull of have limit) = ⊥
+-- the version after a commit, or why there is none
+abbrev pub Failed : CommitErr → Result (List Commit) VersionErr → Type 0
+Failed (c.HistoryFull of have limit) answer = answer ≡ Err (v.HistoryFull of have limit)
+Failed (c.TooManyQuads have would) answer = answer ≡ Err (v.TooManyQuads have would)
+Failed c.Memory answer = Unit {0}
+
+abbrev pub AfterCommit : Result (List Commit) VersionErr → Result (List Commit) CommitErr → Type 0
+AfterCommit answer (Ok version) = answer ≡ Ok version
+AfterCommit answer (Err error) = Failed error answer

@@ -1,4 +1,10 @@
+pub mod Entries
 pub mod Kept
+pub mod Looked
+pub mod Held
+pub mod AwayLaws
 pub mod Replayed
 pub mod Checks
+pub mod Prepared
+pub mod Taken
 pub mod Seat

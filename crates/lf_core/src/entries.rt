@@ -1,71 +1,52 @@
-//! Entries of the stored history, the places that they take, and what a registration puts.
-ghost use Rattle.std.specs.Prelude.{◌≡◌, ◌<◌, ◌≤◌, ◌+◌, [], ◌∷◌, ◌++◌, length, vec_len, vec_capacity, IfOk};
-ghost use Rattle.def_histories.specs.declared.operation.Operation.TheVariants.{Register};
-ghost use Rattle.def_histories.specs.History.{registered};
+//! Entries of the stored history, and the room that they take.
+ghost use Rattle.std.specs.Prelude.{◌≡◌, ◌<◌, ◌≤◌, ◌+◌, [], ◌∷◌, ◌++◌, length, vec_len, vec_capacity, IfOk, IfSome};
+ghost use Rattle.lf_core.specs.Entries.{operation_of, operations};
 
-use crate::frames::{Kept, live_of, make_frame_places};
-use def_histories::{Live, Operation};
 use lf_base::{Memory, Text};
-use std::alloc::Global;
+use lf_versions::Commit;
+use std::sync::Arc;
+
+/// One entry. Its commit is shared with the versions that it made.
+#[derive(Debug, Drop)]
+pub enum Entry {
+    Commit(Arc<Commit>),
+    Register { seat: u64, name: Text, text: Text },
+    Retire { seat: u64, name: Text },
+    Publish { name: Text, version: u64 },
+}
 
 /// Puts an entry at the end of a history that has a place for it.
-pub fn enter(history: &mut Vec<Operation>, entry: Operation)
+pub fn enter(history: &mut Vec<Entry>, entry: Entry)
     requires place { vec_len history.old < vec_capacity history.old }
-    ensures entered { history.new.items ≡ history.old.items ++ entry ∷ [] }
+    ensures entered { operations history.new.items ≡ operations history.old.items ++ operation_of entry ∷ [] }
+    ensures longer { length history.new.items ≡ length history.old.items + 1 }
     ensures room { vec_capacity history.old ≤ vec_capacity history.new }
 {
     let _ = history.push(entry);
 }
 
-/// Makes places for so many more entries.
-pub fn make_places(history: &mut Vec<Operation>, more: usize) -> Result<(), Memory>
+// The entries that the history of so many live frames may need room for, with one place more.
+fn needed(places: usize, frames: usize) -> Option<usize>
+    ensures { IfSome result (λ more. more ≡ frames + (places + 1 + (places + 1))) }
+{
+    let places = places.checked_add(1)?;
+    let twice = places.checked_add(places)?;
+    frames.checked_add(twice)
+}
+
+/// Makes room for one place more, and gives the number of places then. Each live frame has room for its retirement, and
+/// each place for an entry and the retirement of the frame that this may register.
+pub fn add_place(history: &mut Vec<Entry>, places: usize, frames: usize) -> Result<usize, Memory>
     ensures kept { history.new.items ≡ history.old.items }
     ensures room { vec_capacity history.old ≤ vec_capacity history.new }
-    ensures placed { IfOk result (λ _. length history.new.items + more ≤ vec_capacity history.new) }
+    ensures places { IfOk result (λ more. more ≡ places + 1) }
+    ensures placed { IfOk result (λ more. length history.new.items + (frames + (more + more)) ≤ vec_capacity history.new) }
 {
-    history.reserve(more)?;
-    Ok(())
-}
-
-/// The entry of a registration.
-fn registration(alloc: Global, seat: u64, name: &str, text: &str) -> Result<Operation, Memory>
-    ensures { IfOk result (λ entry. entry ≡ Register seat name.now text.now) }
-{
-    Ok(Operation::Register {
-        seat,
-        name: Text::of(alloc, name)?,
-        text: Text::of(alloc, text)?,
-    })
-}
-
-/// What a registration puts: its entry, and the frame as it is live.
-#[derive(Debug, Drop)]
-pub struct Ready {
-    pub entry: Operation,
-    pub live: Live,
-}
-
-/// Makes what a registration puts, and the places for it and for its retirement.
-pub fn ready_registration(
-    alloc: Global,
-    history: &mut Vec<Operation>,
-    frames: &mut Vec<Kept>,
-    seat: u64,
-    number: u64,
-    name: &str,
-    text: &str,
-) -> Result<Ready, Memory>
-    ensures same_history { history.new.items ≡ history.old.items }
-    ensures same_frames { frames.new.items ≡ frames.old.items }
-    ensures room { vec_capacity history.old ≤ vec_capacity history.new }
-    ensures entry { IfOk result (λ ready. ready.entry ≡ Register seat name.now text.now) }
-    ensures live { IfOk result (λ ready. ready.live ≡ registered name.now number text.now) }
-    ensures places { IfOk result (λ _. length history.new.items + (length frames.new.items + 2) ≤ vec_capacity history.new) }
-    ensures frame_place { IfOk result (λ _. length frames.new.items + 1 ≤ vec_capacity frames.new) }
-{
-    let entry = registration(alloc, seat, name, text)?;
-    let live = live_of(alloc, number, name, text)?;
-    make_places(history, frames.len() + 2)?;
-    make_frame_places(frames, 1)?;
-    Ok(Ready { entry, live })
+    match needed(places, frames) {
+        Some(more) => {
+            history.reserve(more)?;
+            Ok(places + 1)
+        }
+        None => Err(Memory),
+    }
 }

@@ -5,11 +5,17 @@ mod committing;
 mod core_desk;
 mod entries;
 mod frames;
+mod job;
 mod limits;
+mod putting;
+mod ready;
 mod registering;
 mod state;
 #[cfg(test)]
 mod tests;
+mod turns;
 
 pub use core_desk::CoreDesk;
+pub use job::Job;
+pub use ready::Ready;
 pub use state::State;

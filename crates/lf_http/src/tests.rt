@@ -153,6 +153,11 @@ fn methods_and_targets_are_read_as_they_are_sent(rt: HostRuntime) -> Result<(), 
         (
             b"POST /turn HTTP/1.1\r\nHost: a\r\n\r\n".as_slice(),
             Method::Post,
+            Target::TurnAt,
+        ),
+        (
+            b"POST /turns HTTP/1.1\r\nHost: a\r\n\r\n".as_slice(),
+            Method::Post,
             Target::NoTarget,
         ),
         (

@@ -13,7 +13,7 @@ use Rattle.lf_model.specs.declared.document.Limit.TheVariants as limits
 use Rattle.lf_model.specs.declared.error.LdError.{LdError}
 use Rattle.lf_model.specs.declared.error.LdError.TheVariants.{CollidingKeywords, CyclicIriMapping, InvalidEmbedValue, InvalidIdValue, InvalidReverseValue, InvalidVersionValue, InvalidContainerMapping, InvalidDefaultLanguage, InvalidFrame, InvalidIriMapping, InvalidKeywordAlias, InvalidLanguageMapping, InvalidLocalContext, InvalidPrefixValue, InvalidReverseProperty, InvalidTermDefinition, InvalidTypeMapping, InvalidTypeValue, InvalidValueObject, InvalidVocabMapping, KeywordRedefinition, LoadingRemoteContextFailed, IriConfusedWithPrefix}
 use Rattle.def_histories.specs.Legal.{is_frame_name, is_name_byte, most_name}
-use Rattle.lf_session.specs.Bodies.{error_body, frame_body, version_body, number_or_null, pending_body, bad_line_body, frame_too_long_body, too_many_body, history_full_body, fractional_body, limit_body}
+use Rattle.lf_session.specs.Bodies.{error_body, frame_body, version_body, number_or_null, pending_body, bad_line_body, frame_too_long_body, too_many_body, history_full_body, fractional_body, limit_body, idle_body, published_body, home_body, superseded_body}
 use Rattle.lf_names.specs.Names.{kind_name, counted_name, limit_name, limit_number}
 use Rattle.lf_session.specs.BodyLaws.{is_unescaped, text_member, number_member, BodiesAreJson}
 
@@ -209,6 +209,52 @@ over-json limits.Depth = refl
 over-json limits.DocumentItems = refl
 over-json limits.DocumentBytes = refl
 
+-- ---- turns
+
+idle-json : idle_body ≡ json_object (text_member (codes "turn") (codes "idle") ∷ [])
+unfolding idle_body
+idle-json = refl
+
+name_and_number : (name quote middle number end : List ℕ)
+    → name ++ (quote ++ middle) ++ number ++ end ≡ ((name ++ quote) ++ (middle ++ number)) ++ end
+name_and_number name quote middle number end = simp append_assoc refl
+
+name_and_text : (name quote middle end : List ℕ) → name ++ (quote ++ (middle ++ end)) ≡ ((name ++ quote) ++ middle) ++ end
+name_and_text name quote middle end = simp append_assoc refl
+
+name_and_all : (name quote first one between other last end : List ℕ)
+    → name ++ (quote ++ first) ++ one ++ between ++ other ++ (last ++ end)
+    ≡ ((name ++ quote) ++ (first ++ (one ++ (between ++ (other ++ last))))) ++ end
+name_and_all name quote first one between other last end = simp append_assoc refl
+
+published-json : (name : List ℕ) (version : ℕ) → IsTrue (is_frame_name name)
+    → published_body name version
+    ≡ json_object (text_member (codes "frame") name ∷ text_member (codes "turn") (codes "published") ∷ number_member (codes "version") version ∷ [])
+unfolding published_body
+published-json name version is =
+    ap (λ (w : List ℕ). codes "{\"frame\":\"" ++ w)
+    (name_and_number name (34 ∷ []) (codes ",\"turn\":\"published\",\"version\":") (decimal version) (codes "}"))
+    ∙ ap (λ (w : List ℕ). codes "{\"frame\":\"" ++ (((w ++ 34 ∷ []) ++ (codes ",\"turn\":\"published\",\"version\":" ++ decimal version)) ++ codes "}"))
+    (sym (as_is name (frame-name name is)))
+
+home-json : (name : List ℕ) → IsTrue (is_frame_name name)
+    → home_body name ≡ json_object (text_member (codes "frame") name ∷ text_member (codes "turn") (codes "home") ∷ [])
+unfolding home_body
+home-json name is =
+    ap (λ (w : List ℕ). codes "{\"frame\":\"" ++ w) (name_and_text name (34 ∷ []) (codes ",\"turn\":\"home\"") (codes "}"))
+    ∙ ap (λ (w : List ℕ). codes "{\"frame\":\"" ++ (((w ++ 34 ∷ []) ++ codes ",\"turn\":\"home\"") ++ codes "}"))
+    (sym (as_is name (frame-name name is)))
+
+superseded-json : (name : List ℕ) (was : ℕ) (now : Option ℕ) → IsTrue (is_frame_name name)
+    → superseded_body name was now
+    ≡ json_object (text_member (codes "frame") name ∷ json_member (codes "now") (number_or_null now) ∷ number_member (codes "then") was ∷ text_member (codes "turn") (codes "superseded") ∷ [])
+unfolding superseded_body
+superseded-json name was now is =
+    ap (λ (w : List ℕ). codes "{\"frame\":\"" ++ w)
+    (name_and_all name (34 ∷ []) (codes ",\"now\":") (number_or_null now) (codes ",\"then\":") (decimal was) (codes ",\"turn\":\"superseded\"") (codes "}"))
+    ∙ ap (λ (w : List ℕ). codes "{\"frame\":\"" ++ (((w ++ 34 ∷ []) ++ (codes ",\"now\":" ++ (number_or_null now ++ (codes ",\"then\":" ++ (decimal was ++ codes ",\"turn\":\"superseded\""))))) ++ codes "}"))
+    (sym (as_is name (frame-name name is)))
+
 pub bodies_are_json : BodiesAreJson
 bodies_are_json = record {
   error = error-json;
@@ -223,4 +269,8 @@ bodies_are_json = record {
   full = full-json;
   fractional = fractional-json;
   over = over-json;
+  idle = idle-json;
+  published = published-json;
+  home = home-json;
+  superseded = superseded-json;
 }

@@ -12,6 +12,9 @@ use Rattle.def_histories.specs.declared.operation.Operation.{Operation}
 use Rattle.lf_desk.specs.CommitAnswer.{committed_by}
 use Rattle.lf_desk.specs.RegisterAnswer.{registered_by}
 use Rattle.lf_desk.specs.Calls.{retired_by}
+use Rattle.def_turns.specs.declared.turned.Turned.{Turned}
+use Rattle.def_turns.specs.declared.turned.Turned.TheVariants as t
+use Rattle.lf_desk.specs.Rotas.{given_entry}
 use Rattle.lf_desk.specs.Seats.{is_of_seat, is_made_by, own, IsExtended}
 use Rattle.lf_session.specs.declared.request.Asked.{Asked}
 use Rattle.lf_session.specs.declared.request.Asked.TheVariants as asked
@@ -63,6 +66,14 @@ made-committed : (seat : ℕ) (patch : Patch) (result : Result ℕ CommitErr) �
 made-committed seat patch (Ok version) = rw (itself seat) refl
 made-committed seat patch (Err error) = refl
 
+-- a publication has no seat's number
+made-given : (seat : ℕ) (result : Result Turned Memory) → AllMade seat (given_entry result)
+made-given seat (Ok t.Idle) = refl
+made-given seat (Ok (t.Published name version)) = refl
+made-given seat (Ok (t.Home name version)) = refl
+made-given seat (Ok (t.Superseded name was now)) = refl
+made-given seat (Err refused) = refl
+
 made-is : (seat : ℕ) (made these : List Operation) → made ≡ these → AllMade seat these → AllMade seat made
 made-is seat made these is all = subst (AllMade seat) (sym is) all
 
@@ -83,3 +94,4 @@ made-answered seat name body need asked.Commit seen later made reply by = commit
     committed (inr (inl bad)) = made-none seat made bad.makes
     committed (inr (inr none)) = made-none seat made none.0
 made-answered seat name body need asked.Version seen later made reply by = made-none seat made by.1
+made-answered seat name body need asked.Turn seen later made reply by = made-is seat made _ by.1 (made-given seat by.0)

@@ -6,11 +6,13 @@ use Rattle.lf_desk.specs.declared.refusals.CommitErr.{CommitErr}
 use Rattle.lf_desk.specs.declared.refusals.CommitErr.TheVariants as c
 use Rattle.lf_desk.specs.declared.refusals.RegisterErr.{RegisterErr}
 use Rattle.lf_desk.specs.declared.refusals.RegisterErr.TheVariants as r
+use Rattle.def_turns.specs.declared.turned.Turned.{Turned}
+use Rattle.def_turns.specs.declared.turned.Turned.TheVariants as t
 use Rattle.lf_model.specs.declared.document.Doc.{Doc}
 use Rattle.lf_model.specs.declared.document.Doc.TheVariants as doc
 use Rattle.lf_session.specs.declared.request.Refusal.{Refusal}
 use Rattle.lf_session.specs.declared.request.Refusal.TheVariants as why
-use Rattle.lf_session.specs.Replies.{Reply, document_reply, commit_reply, register_reply, retire_reply}
+use Rattle.lf_session.specs.Replies.{Reply, document_reply, commit_reply, register_reply, retire_reply, turn_reply}
 use Rattle.lf_session.specs.Requests.{refused_reply}
 
 -- the reply is no document, and its status isn't 202
@@ -53,6 +55,13 @@ committed-other (Ok version) = record { unread = refl; settled = refl }
 committed-other (Err (c.HistoryFull of have most)) = record { unread = refl; settled = refl }
 committed-other (Err (c.TooManyQuads have would)) = record { unread = refl; settled = refl }
 committed-other (Err c.Memory) = record { unread = refl; settled = refl }
+
+pub turned-other : (result : Result Turned Memory) → IsOther (turn_reply result)
+turned-other (Ok t.Idle) = record { unread = refl; settled = refl }
+turned-other (Ok (t.Published name version)) = record { unread = refl; settled = refl }
+turned-other (Ok (t.Home name version)) = record { unread = refl; settled = refl }
+turned-other (Ok (t.Superseded name was now)) = record { unread = refl; settled = refl }
+turned-other (Err refused) = record { unread = refl; settled = refl }
 
 -- a document is no answer that it is still to come
 pub document-settled : (document : Doc) (version : ℕ) → nat_eq (document_reply document version).status 202 ≡ false

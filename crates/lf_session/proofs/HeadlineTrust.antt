@@ -20,7 +20,7 @@ use Rattle.lf_session.specs.Bodies.{pending_body}
 use Rattle.lf_session.specs.Replies.{Reply, plain, document_reply, look_reply, framed_reply, unknown_frame, out_of_memory, bad_line_reply, version_reply}
 use Rattle.lf_session.specs.Answers.{IsAnswered, Commits, Refreshes}
 use Rattle.lf_session.specs.Headline.{IsOfOneVersion, IsStillPending, asks_for_document}
-use Rattle.lf_session.proofs.HeadlineReplies.{IsOther, not_200, not_202, refused-other, registered-other, retired-other, committed-other, document-settled}
+use Rattle.lf_session.proofs.HeadlineReplies.{IsOther, not_200, not_202, refused-other, registered-other, retired-other, committed-other, turned-other, document-settled}
 
 -- what can be trusted of a reply over these histories
 pub record Trust (asks : Bool) (seen later : List Operation) (name : List ℕ) (need : ℕ) (reply : Reply) : Type 0 where
@@ -174,3 +174,5 @@ answered-trust seat name body need asked.Commit seen later made reply legal by =
     committed (inr (inr none)) = reply-trust seen later name need reply out_of_memory none.1 (record { unread = refl; settled = refl })
 answered-trust seat name body need asked.Version seen later made reply legal by =
     reply-trust seen later name need reply (version_reply (commits seen)) by.2 (record { unread = refl; settled = refl })
+answered-trust seat name body need asked.Turn seen later made reply legal by =
+    reply-trust seen later name need reply _ by.2 (turned-other by.0)

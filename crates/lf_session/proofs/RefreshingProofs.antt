@@ -66,7 +66,7 @@ answered-refreshed alone seat name body need seen later made reply legal went is
     (answered-trust seat name body need asked.GetNow seen later made reply legal by) went is_live low by.1.1 by.1.2
 
 pub refreshes_are_answered : RefreshesAreAnswered
-refreshes_are_answered alone seat need before x is wants is_live low =
+refreshes_are_answered alone boards seat need before x is wants is_live low =
     answered-refreshed alone seat (name_of x.sent.target) x.body (needed need x.head) x.seen x.later x.made x.reply
     (prefix_is_legal is_frame x.later x.made is.legal) is.went is_live low
     (subst (λ (a : Asked). IsAnswered seat (name_of x.sent.target) x.body (needed need x.head) a x.seen x.later x.made x.reply) wants is.answered)

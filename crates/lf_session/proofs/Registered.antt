@@ -7,7 +7,7 @@ use Rattle.def_histories.specs.Legal.{is_frame_name, most_name, most_frame_bytes
 use Rattle.lf_frames.specs.FrameTexts.{frame_text}
 use Rattle.lf_desk.specs.RegisterAnswer.{register_answer, is_live_text, text_answer, limits_answer}
 
-short-name : (name : List ℕ) → is_frame_name name ≡ true → length name ≤ 64
+pub short-name : (name : List ℕ) → is_frame_name name ≡ true → length name ≤ 64
 unfolding most_name
 short-name name e = grind arith
 

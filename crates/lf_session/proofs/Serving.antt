@@ -18,9 +18,11 @@ use Rattle.lf_session.specs.Replies.{Reply, reply_bytes}
 use Rattle.lf_session.specs.Answers.{IsAnswered}
 use Rattle.lf_session.specs.Steps.{IsStep}
 use Rattle.lf_session.specs.Requests.{asked_by}
+use Rattle.lf_session.specs.Boards.{Boards, StaysOut}
+use Rattle.lf_session.specs.Moving.{Moves}
 use Rattle.lf_session.specs.Exchanges.{Exchange, IsExchange, needed}
 use Rattle.lf_session.specs.Session.{Last, nothing, request, refused, cut, faulted, no_room, no_buffers, due, IsBodyCut, IsFirstRefusal, IsLast, EndsBy}
-use Rattle.lf_session.specs.Served.{Ends, Serves, last_of, SendsLast, SendsReply, Replies}
+use Rattle.lf_session.specs.Served.{Ends, Serves, boards_behind, last_of, SendsLast, SendsReply, Replies}
 
 -- the whole of what is due was sent, or a part
 pub sends_whole : (last : Last) (held_before held_after : Option (List ℕ)) (e : Ended)
@@ -50,11 +52,11 @@ unfolding is_no_buffers
 other last e same = false≢true (sym e ∙ ap is_no_buffers same)
 
 -- the input ended between messages
-pub ends_clean : (alone : Bool) (seat need : ℕ) (history : List Operation) (left0 left1 held : Option (List ℕ)) (pending : List ℕ)
+pub ends_clean : (alone : Bool) (boards : Boards) (seat need : ℕ) (history : List Operation) (left0 left1 held : Option (List ℕ)) (pending : List ℕ)
     → prepended pending left0 ≡ left1 → HasEnded left1
-    → Ends alone seat need history history record { left_before = left0; left_after = left1; held_before = held; held_after = held } pending ended.Clean
+    → Ends alone boards boards seat need history history record { left_before = left0; left_after = left1; held_before = held; held_after = held } pending ended.Clean
 unfolding is_no_buffers
-ends_clean alone seat need history left0 left1 held pending e end =
+ends_clean alone boards seat need history left0 left1 held pending e end =
     record {
       last = nothing;
       rest = [];
@@ -63,6 +65,7 @@ ends_clean alone seat need history left0 left1 held pending e end =
       writes = sym (appended_nothing held);
       stands = (refl, end, refl);
       ends = (refl, refl);
+      moves = refl;
       read_some = other nothing refl;
     }
 
@@ -92,16 +95,16 @@ lacks_only rest left e open_too (inl lacks) = lacks
 lacks_only rest left e open_too (inr (k, more, reads, why)) =
     absurd (not_open (is_bad (request_of k)) (needs_length (request_of k)) _ _ (head_of (request_of k)) e open_too why)
 
-stands : (alone : Bool) (seat need : ℕ) (history : List Operation) (rest : List ℕ) (left : Option (List ℕ)) (e : HeadErr)
-    → IsRefused rest left e → IsFirstRefusal rest e → IsLast alone seat need history rest left (last_of e) history
+stands : (alone : Bool) (boards : Boards) (seat need : ℕ) (history : List Operation) (rest : List ℕ) (left : Option (List ℕ)) (e : HeadErr)
+    → IsRefused rest left e → IsFirstRefusal rest e → IsLast alone boards seat need history rest left (last_of e) history
 unfolding is_open
-stands alone seat need history rest left h.ReadFault is first = (inl (lacks_only rest left h.ReadFault refl is), refl)
-stands alone seat need history rest left h.CutShort is first = (inl (lacks_only rest left h.CutShort refl is), refl)
-stands alone seat need history rest left h.TooLarge is first = (refl, is, first, refl)
-stands alone seat need history rest left h.BadHead is first = (refl, is, first, refl)
-stands alone seat need history rest left h.LengthNeeded is first = (refl, is, first, refl)
-stands alone seat need history rest left h.BodyTooLong is first = (refl, is, first, refl)
-stands alone seat need history rest left h.Expectation is first = (refl, is, first, refl)
+stands alone boards seat need history rest left h.ReadFault is first = (inl (lacks_only rest left h.ReadFault refl is), refl)
+stands alone boards seat need history rest left h.CutShort is first = (inl (lacks_only rest left h.CutShort refl is), refl)
+stands alone boards seat need history rest left h.TooLarge is first = (refl, is, first, refl)
+stands alone boards seat need history rest left h.BadHead is first = (refl, is, first, refl)
+stands alone boards seat need history rest left h.LengthNeeded is first = (refl, is, first, refl)
+stands alone boards seat need history rest left h.BodyTooLong is first = (refl, is, first, refl)
+stands alone boards seat need history rest left h.Expectation is first = (refl, is, first, refl)
 
 last_is_other : (e : HeadErr) → is_no_buffers (last_of e) ≡ false
 unfolding is_no_buffers
@@ -113,21 +116,31 @@ last_is_other h.LengthNeeded = refl
 last_is_other h.BodyTooLong = refl
 last_is_other h.Expectation = refl
 
+behind-refused : (boards : Boards) (e : HeadErr) → boards ≡ boards_behind boards (last_of e)
+behind-refused boards h.ReadFault = refl
+behind-refused boards h.CutShort = refl
+behind-refused boards h.TooLarge = refl
+behind-refused boards h.BadHead = refl
+behind-refused boards h.LengthNeeded = refl
+behind-refused boards h.BodyTooLong = refl
+behind-refused boards h.Expectation = refl
+
 -- a head was refused
-pub ends_refused : (alone : Bool) (seat need : ℕ) (history : List Operation) (left0 left1 held0 held1 : Option (List ℕ)) (pending rest : List ℕ)
+pub ends_refused : (alone : Bool) (boards : Boards) (seat need : ℕ) (history : List Operation) (left0 left1 held0 held1 : Option (List ℕ)) (pending rest : List ℕ)
     (e : HeadErr) (end : Ended)
     → prepended pending left0 ≡ prepended rest left1 → IsRefused rest left1 e → IsFirstRefusal rest e
     → SendsLast (last_of e) held0 held1 end
-    → Ends alone seat need history history record { left_before = left0; left_after = left1; held_before = held0; held_after = held1 } pending end
-ends_refused alone seat need history left0 left1 held0 held1 pending rest e end same is first sends =
+    → Ends alone boards boards seat need history history record { left_before = left0; left_after = left1; held_before = held0; held_after = held1 } pending end
+ends_refused alone boards seat need history left0 left1 held0 held1 pending rest e end same is first sends =
     record {
       last = last_of e;
       rest = rest;
       sent = sends.sent;
       reads = same;
       writes = sends.writes;
-      stands = stands alone seat need history rest left1 e is first;
+      stands = stands alone boards seat need history rest left1 e is first;
       ends = sends.ends;
+      moves = behind-refused boards e;
       read_some = other (last_of e) (last_is_other e);
     }
 
@@ -160,13 +173,13 @@ body_cut sent head body is lacking = record {
 }
 
 -- the input ended inside a body
-pub ends_cut : (alone : Bool) (seat need : ℕ) (history : List Operation) (left0 left1 left2 held : Option (List ℕ)) (pending mid body : List ℕ)
+pub ends_cut : (alone : Bool) (boards : Boards) (seat need : ℕ) (history : List Operation) (left0 left1 left2 held : Option (List ℕ)) (pending mid body : List ℕ)
     (sent : RequestHead) (head : Head) → IsAccepted sent head
     → prepended pending left0 ≡ prepended (print_request sent ++ mid) left1 → prepended mid left1 ≡ prepended body left2
     → length body < head.length → HasEnded left2
-    → Ends alone seat need history history record { left_before = left0; left_after = left2; held_before = held; held_after = held } pending ended.CutShort
+    → Ends alone boards boards seat need history history record { left_before = left0; left_after = left2; held_before = held; held_after = held } pending ended.CutShort
 unfolding is_no_buffers
-ends_cut alone seat need history left0 left1 left2 held pending mid body sent head is first second lacking end =
+ends_cut alone boards seat need history left0 left1 left2 held pending mid body sent head is first second lacking end =
     record {
       last = cut;
       rest = print_request sent ++ body;
@@ -175,17 +188,18 @@ ends_cut alone seat need history left0 left1 left2 held pending mid body sent he
       writes = sym (appended_nothing held);
       stands = (inr (body_cut sent head body is lacking, end), refl);
       ends = (refl, refl);
+      moves = refl;
       read_some = other cut refl;
     }
 
 -- a read failed inside a body
-pub ends_faulted : (alone : Bool) (seat need : ℕ) (history : List Operation) (left0 left1 left2 held : Option (List ℕ)) (pending mid body : List ℕ)
+pub ends_faulted : (alone : Bool) (boards : Boards) (seat need : ℕ) (history : List Operation) (left0 left1 left2 held : Option (List ℕ)) (pending mid body : List ℕ)
     (sent : RequestHead) (head : Head) → IsAccepted sent head
     → prepended pending left0 ≡ prepended (print_request sent ++ mid) left1 → prepended mid left1 ≡ prepended body left2
     → length body < head.length
-    → Ends alone seat need history history record { left_before = left0; left_after = left2; held_before = held; held_after = held } pending ended.ReadFault
+    → Ends alone boards boards seat need history history record { left_before = left0; left_after = left2; held_before = held; held_after = held } pending ended.ReadFault
 unfolding is_no_buffers
-ends_faulted alone seat need history left0 left1 left2 held pending mid body sent head is first second lacking =
+ends_faulted alone boards seat need history left0 left1 left2 held pending mid body sent head is first second lacking =
     record {
       last = faulted;
       rest = print_request sent ++ body;
@@ -194,17 +208,18 @@ ends_faulted alone seat need history left0 left1 left2 held pending mid body sen
       writes = sym (appended_nothing held);
       stands = (inr (body_cut sent head body is lacking), refl);
       ends = (refl, refl);
+      moves = refl;
       read_some = other faulted refl;
     }
 
 -- no memory was found for a body
-pub ends_starved : (alone : Bool) (seat need : ℕ) (history : List Operation) (left0 left1 left2 held0 held1 : Option (List ℕ)) (pending mid more : List ℕ)
+pub ends_starved : (alone : Bool) (boards : Boards) (seat need : ℕ) (history : List Operation) (left0 left1 left2 held0 held1 : Option (List ℕ)) (pending mid more : List ℕ)
     (sent : RequestHead) (head : Head) (end : Ended) → IsAccepted sent head
     → prepended pending left0 ≡ prepended (print_request sent ++ mid) left1 → prepended mid left1 ≡ prepended more left2
     → 0 < head.length → SendsLast (no_room head) held0 held1 end
-    → Ends alone seat need history history record { left_before = left0; left_after = left2; held_before = held0; held_after = held1 } pending end
+    → Ends alone boards boards seat need history history record { left_before = left0; left_after = left2; held_before = held0; held_after = held1 } pending end
 unfolding is_no_buffers
-ends_starved alone seat need history left0 left1 left2 held0 held1 pending mid more sent head end is first second some sends =
+ends_starved alone boards seat need history left0 left1 left2 held0 held1 pending mid more sent head end is first second some sends =
     record {
       last = no_room head;
       rest = print_request sent ++ more;
@@ -216,19 +231,21 @@ ends_starved alone seat need history left0 left1 left2 held0 held1 pending mid m
         refl,
       );
       ends = sends.ends;
+      moves = refl;
       read_some = other (no_room head) refl;
     }
 
 -- an accepted request, as an exchange
-abbrev exchange : (sent : RequestHead) (head : Head) (body : List ℕ) (seen later made : List Operation) (reply : Reply) → Exchange
-exchange sent head body seen later made reply =
-    record { sent = sent; head = head; body = body; seen = seen; later = later; made = made; reply = reply }
+abbrev exchange : (sent : RequestHead) (head : Head) (body : List ℕ) (seen later made : List Operation) (boards : Boards) (reply : Reply) → Exchange
+exchange sent head body seen later made boards reply =
+    record { sent = sent; head = head; body = body; seen = seen; later = later; made = made; boards = boards; reply = reply }
 
-is_exchange : (alone : Bool) (seat need : ℕ) (before after : List Operation) (sent : RequestHead) (head : Head) (name body : List ℕ) (reply : Reply)
+is_exchange : (alone : Bool) (boards boards_after : Boards) (seat need : ℕ) (before after : List Operation) (sent : RequestHead) (head : Head) (name body : List ℕ) (reply : Reply)
     → IsAccepted sent head → length body ≡ head.length → name ≡ name_of sent.target
     → (step : IsStep alone seat (needed need head) name body (asked_by head) before after reply)
-    → IsExchange alone seat need before (exchange sent head body step.seen step.later step.made reply)
-is_exchange alone seat need before after sent head name body reply is whole named step =
+    → Moves alone boards boards_after seat (asked_by head) before after reply → StaysOut alone after boards boards_after
+    → IsExchange alone boards seat need before (exchange sent head body step.seen step.later step.made boards_after reply)
+is_exchange alone boards boards_after seat need before after sent head name body reply is whole named step moved out =
     record {
       is_head = is.is_head;
       short = is.short;
@@ -239,21 +256,23 @@ is_exchange alone seat need before after sent head name body reply is whole name
       went = step.went;
       legal = subst (λ (w : List Operation). IsLegal is_frame w) step.follows step.legal;
       answered = subst (λ (w : List ℕ). IsAnswered seat w body (needed need head) (asked_by head) step.seen step.later step.made reply) named step.answered;
+      moved = subst (λ (w : List Operation). Moves alone boards boards_after seat (asked_by head) before w reply) step.follows moved;
+      out = subst (λ (w : List Operation). StaysOut alone w boards boards_after) step.follows out;
     }
 
 -- a request was answered
-pub serves_request : (alone : Bool) (seat need need_after : ℕ) (before after : List Operation)
+pub serves_request : (alone : Bool) (boards boards_after : Boards) (seat need need_after : ℕ) (before after : List Operation)
     (left0 left1 left2 held0 held1 : Option (List ℕ)) (pending mid behind : List ℕ)
     (sent : RequestHead) (head : Head) (name body : List ℕ) (result : Option Ended)
     → IsAccepted sent head → length body ≡ head.length → name ≡ name_of sent.target
     → prepended pending left0 ≡ prepended (print_request sent ++ mid) left1 → prepended mid left1 ≡ prepended (body ++ behind) left2
-    → Replies alone seat need need_after head name body before after held0 held1 result
-    → Serves alone seat need need_after before after record { left_before = left0; left_after = left2; held_before = held0; held_after = held1 } pending behind result
-serves_request alone seat need need_after before after left0 left1 left2 held0 held1 pending mid behind sent head name body result is whole named first second r =
+    → Replies alone boards boards_after seat need need_after head name body before after held0 held1 result
+    → Serves alone boards boards_after seat need need_after before after record { left_before = left0; left_after = left2; held_before = held0; held_after = held1 } pending behind result
+serves_request alone boards boards_after seat need need_after before after left0 left1 left2 held0 held1 pending mid behind sent head name body result is whole named first second r =
     go result r.sends
   where
-    is_x : IsExchange alone seat need before (exchange sent head body r.step.seen r.step.later r.step.made r.reply)
-    is_x = is_exchange alone seat need before after sent head name body r.reply is whole named r.step
+    is_x : IsExchange alone boards seat need before (exchange sent head body r.step.seen r.step.later r.step.made boards_after r.reply)
+    is_x = is_exchange alone boards boards_after seat need before after sent head name body r.reply is whole named r.step r.moved r.out
 
     reads : prepended pending left0 ≡ prepended ((print_request sent ++ body) ++ behind) left2
     reads =
@@ -261,38 +280,41 @@ serves_request alone seat need need_after before after left0 left1 left2 held0 h
         ∙ ap (λ (w : List ℕ). prepended w left2) (sym (append_assoc (print_request sent) body behind))
 
     go : (o : Option Ended) → SendsReply head.close (reply_bytes head.method head.close r.reply) held0 held1 o
-        → Serves alone seat need need_after before after record { left_before = left0; left_after = left2; held_before = held0; held_after = held1 } pending behind o
+        → Serves alone boards boards_after seat need need_after before after record { left_before = left0; left_after = left2; held_before = held0; held_after = held1 } pending behind o
     go None sends =
         record {
-          x = exchange sent head body r.step.seen r.step.later r.step.made r.reply;
+          x = exchange sent head body r.step.seen r.step.later r.step.made boards_after r.reply;
           is = is_x;
           stays = sends.0;
           reads = reads;
           writes = sends.1;
           needs = r.needs;
           follows = r.step.follows;
+          moves = refl;
         }
     go (Some ended.Asked) sends =
         record {
-          last = request (exchange sent head body r.step.seen r.step.later r.step.made r.reply);
+          last = request (exchange sent head body r.step.seen r.step.later r.step.made boards_after r.reply);
           rest = (print_request sent ++ body) ++ behind;
           sent = reply_bytes head.method head.close r.reply;
           reads = reads;
           writes = sends.1;
           stands = (is_x, (behind, refl), r.step.follows);
-          ends = (exchange sent head body r.step.seen r.step.later r.step.made r.reply, refl, sends.0, refl);
-          read_some = other (request (exchange sent head body r.step.seen r.step.later r.step.made r.reply)) (is_other _);
+          ends = (exchange sent head body r.step.seen r.step.later r.step.made boards_after r.reply, refl, sends.0, refl);
+          moves = refl;
+          read_some = other (request (exchange sent head body r.step.seen r.step.later r.step.made boards_after r.reply)) (is_other _);
         }
     go (Some ended.WriteFault) (n, short, wrote) =
         record {
-          last = request (exchange sent head body r.step.seen r.step.later r.step.made r.reply);
+          last = request (exchange sent head body r.step.seen r.step.later r.step.made boards_after r.reply);
           rest = (print_request sent ++ body) ++ behind;
           sent = take n (reply_bytes head.method head.close r.reply);
           reads = reads;
           writes = wrote;
           stands = (is_x, (behind, refl), r.step.follows);
           ends = (n, short, refl);
-          read_some = other (request (exchange sent head body r.step.seen r.step.later r.step.made r.reply)) (is_other _);
+          moves = refl;
+          read_some = other (request (exchange sent head body r.step.seen r.step.later r.step.made boards_after r.reply)) (is_other _);
         }
     go (Some ended.Clean) sends = absurd sends
     go (Some (ended.Bad status)) sends = absurd sends

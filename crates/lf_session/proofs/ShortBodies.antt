@@ -4,7 +4,7 @@ use Rattle.std.proofs.lemmas.Bool.{ltb-false}
 use Rattle.std.specs.Prelude.{codes}
 use Rattle.lf_http.specs.declared.head.Head.{Head}
 use Rattle.lf_http.specs.declared.head.HeadErr.{HeadErr}
-use Rattle.lf_http.specs.Judge.{Request, judged, is_bad, needs_length, longest_body, told_length, has_line, head_of}
+use Rattle.lf_http.specs.Judge.{Request, judged, is_bad, needs_length, longest_body, told_length, has_line}
 use Rattle.lf_desk.proofs.Passing.{past}
 
 length_in : Result Head HeadErr → ℕ

@@ -8,6 +8,7 @@ use Rattle.lf_http.specs.declared.head.HeadErr.{HeadErr}
 use Rattle.lf_http.specs.Judge.{method_of, target_of, request_of, judged}
 use Rattle.lf_frames.specs.FrameTexts.{is_frame}
 use Rattle.lf_session.specs.ReplyCases.{replies_open}
+use Rattle.lf_session.specs.Boards.{no_boards}
 use Rattle.lf_session.specs.Exchanges.{IsExchange}
 use Rattle.lf_session.specs.Session.{IsFirstRefusal}
 use Rattle.lf_session.specs.FirstSession.{request_head, commit_exchange}
@@ -46,7 +47,7 @@ unfolding is_token_byte encode_utf8
 patch-head = a_head (codes "PATCH") (codes "/version") _ (omega arith) refl (omega arith) refl (codes "/version", (refl, refl))
     (one_field (codes "Connection") (codes " close") (omega arith) refl refl)
 
-get-is : IsExchange true 0 0 [] closing_get
+get-is : IsExchange true no_boards 0 0 [] closing_get
 unfolding print_request method_of target_of trim_ows
 get-is = record {
   is_head = get-head;
@@ -58,9 +59,11 @@ get-is = record {
   went = as_it_was [];
   legal = empty_is_legal is_frame;
   answered = (refl, refl, refl);
+  moved = refl;
+  out = λ lone. refl;
 }
 
-patch-is : IsExchange true 0 0 [] closing_patch
+patch-is : IsExchange true no_boards 0 0 [] closing_patch
 unfolding print_request method_of target_of trim_ows
 patch-is = record {
   is_head = patch-head;
@@ -72,6 +75,8 @@ patch-is = record {
   went = as_it_was [];
   legal = empty_is_legal is_frame;
   answered = (refl, refl, refl);
+  moved = refl;
+  out = λ lone. refl;
 }
 
 -- the refusal of a whole head with few lines

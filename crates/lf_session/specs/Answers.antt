@@ -16,11 +16,13 @@ use Rattle.def_histories.specs.History.{commits}
 use Rattle.def_histories.specs.Legal.{is_frame_name, most_frame_bytes}
 use Rattle.lf_desk.specs.RegisterAnswer.{register_answer, Answers, registered_by}
 use Rattle.lf_desk.specs.CommitAnswer.{commit_answer, CommitAnswers, committed_by}
+use Rattle.def_turns.specs.declared.turned.Turned.{Turned}
 use Rattle.lf_desk.specs.Looks.{Looks, Frames}
+use Rattle.lf_desk.specs.Rotas.{given_entry}
 use Rattle.lf_desk.specs.Calls.{Retires, retired_by}
 use Rattle.lf_session.specs.declared.request.Asked.{Asked}
 use Rattle.lf_session.specs.declared.request.Asked.TheVariants as asked
-use Rattle.lf_session.specs.Replies.{Reply, out_of_memory, bad_line_reply, version_reply, commit_reply, register_reply, retire_reply, look_reply, framed_reply}
+use Rattle.lf_session.specs.Replies.{Reply, out_of_memory, bad_line_reply, version_reply, commit_reply, register_reply, retire_reply, look_reply, framed_reply, turn_reply}
 use Rattle.lf_session.specs.Requests.{refused_reply}
 
 -- a frame's text that isn't UTF-8: its name and its length are tried first
@@ -96,3 +98,5 @@ IsAnswered seat name body need asked.GetNow seen later made reply =
 IsAnswered seat name body need asked.Commit seen later made reply = (later ≡ seen) × Commits seat body seen made reply
 IsAnswered seat name body need asked.Version seen later made reply =
     (later ≡ seen) × (made ≡ []) × (reply ≡ version_reply (commits seen))
+IsAnswered seat name body need asked.Turn seen later made reply =
+    (result : Result Turned Memory) × (made ≡ given_entry result) × (reply ≡ turn_reply result)

@@ -49,3 +49,23 @@ fractional_body path = codes "{\"error\":\"fractional number\",\"path\":" ++ jso
 unfoldable pub limit_body : Limit → List ℕ
 limit_body limit =
     codes "{\"error\":\"document limit\",\"limit\":\"" ++ limit_name limit ++ codes "\",\"number\":" ++ decimal (limit_number limit) ++ codes "}"
+
+-- ---- turns: the names of frames need no escape
+
+unfoldable pub idle_body : List ℕ
+idle_body = codes "{\"turn\":\"idle\"}"
+
+-- the frame's document of a version was published
+unfoldable pub published_body : List ℕ → ℕ → List ℕ
+published_body name version =
+    codes "{\"frame\":\"" ++ name ++ codes "\",\"turn\":\"published\",\"version\":" ++ decimal version ++ codes "}"
+
+-- the frame's board is at home again
+unfoldable pub home_body : List ℕ → List ℕ
+home_body name = codes "{\"frame\":\"" ++ name ++ codes "\",\"turn\":\"home\"}"
+
+-- the board's text had a number, and another one is live under the name now, or none
+unfoldable pub superseded_body : List ℕ → ℕ → Option ℕ → List ℕ
+superseded_body name was now =
+    codes "{\"frame\":\"" ++ name ++ codes "\",\"now\":" ++ number_or_null now ++ codes ",\"then\":" ++ decimal was
+    ++ codes ",\"turn\":\"superseded\"}"

@@ -8,7 +8,7 @@ use Rattle.lf_model.specs.declared.desk.Counted.{Counted}
 use Rattle.lf_model.specs.declared.document.Limit.{Limit}
 use Rattle.lf_model.specs.declared.error.LdError.{LdError}
 use Rattle.def_histories.specs.Legal.{is_frame_name}
-use Rattle.lf_session.specs.Bodies.{error_body, frame_body, version_body, number_or_null, pending_body, bad_line_body, frame_too_long_body, too_many_body, history_full_body, fractional_body, limit_body}
+use Rattle.lf_session.specs.Bodies.{error_body, frame_body, version_body, number_or_null, pending_body, bad_line_body, frame_too_long_body, too_many_body, history_full_body, fractional_body, limit_body, idle_body, published_body, home_body, superseded_body}
 use Rattle.lf_names.specs.Names.{kind_name, counted_name, limit_name, limit_number}
 
 -- a byte that stands in a JSON string as it is
@@ -53,3 +53,12 @@ pub record BodiesAreJson : Type 0 where
   pub over : (limit : Limit)
       → limit_body limit
       ≡ json_object (text_member (codes "error") (codes "document limit") ∷ text_member (codes "limit") (limit_name limit) ∷ number_member (codes "number") (limit_number limit) ∷ [])
+  pub idle : idle_body ≡ json_object (text_member (codes "turn") (codes "idle") ∷ [])
+  pub published : (name : List ℕ) (version : ℕ) → IsTrue (is_frame_name name)
+      → published_body name version
+      ≡ json_object (text_member (codes "frame") name ∷ text_member (codes "turn") (codes "published") ∷ number_member (codes "version") version ∷ [])
+  pub home : (name : List ℕ) → IsTrue (is_frame_name name)
+      → home_body name ≡ json_object (text_member (codes "frame") name ∷ text_member (codes "turn") (codes "home") ∷ [])
+  pub superseded : (name : List ℕ) (was : ℕ) (now : Option ℕ) → IsTrue (is_frame_name name)
+      → superseded_body name was now
+      ≡ json_object (text_member (codes "frame") name ∷ json_member (codes "now") (number_or_null now) ∷ number_member (codes "then") was ∷ text_member (codes "turn") (codes "superseded") ∷ [])

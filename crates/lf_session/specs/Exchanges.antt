@@ -1,5 +1,5 @@
 -- Requests and their replies, one after another, over a chain of legal histories.
-use Rattle.std.specs.Prelude.{◌≡◌, ◌≤◌, List, [], ◌∷◌, ◌++◌, ℕ, Bool, false, length, max, unwrap_or, Option, Ok}
+use Rattle.std.specs.Prelude.{◌≡◌, ◌≤◌, List, [], ◌∷◌, ◌++◌, ◌+◌, ℕ, Bool, false, length, max, unwrap_or, Option, Ok}
 use Rattle.httparse.specs.Grammar.{RequestHead, IsRequestHead, print_request}
 use Rattle.lf_http.specs.declared.head.Head.{Head}
 use Rattle.lf_http.specs.Judge.{request_of, judged}
@@ -11,8 +11,11 @@ use Rattle.lf_desk.specs.Seats.{IsExtended}
 use Rattle.lf_session.specs.Replies.{Reply, reply_bytes}
 use Rattle.lf_session.specs.Requests.{asked_by}
 use Rattle.lf_session.specs.Answers.{IsAnswered}
+use Rattle.lf_session.specs.Boards.{Boards, StaysOut}
+use Rattle.lf_session.specs.Moving.{Moves, taken_by}
 
--- A request, the history by which it was answered and a later one, what it made behind the later one, and the reply.
+-- A request, the history by which it was answered and a later one, what it made behind the later one, the boards after it, and
+-- the reply.
 pub record Exchange : Type 0 where
   pub sent : RequestHead
   pub head : Head
@@ -20,6 +23,7 @@ pub record Exchange : Type 0 where
   pub seen : List Operation
   pub later : List Operation
   pub made : List Operation
+  pub boards : Boards
   pub reply : Reply
 
 -- the bytes of the request
@@ -46,8 +50,9 @@ needed need head = told need head.seen
 abbrev pub need_of : ℕ → Exchange → ℕ
 need_of need x = told (needed need x.head) x.reply.version
 
--- The request was read whole, with a head within the limits, and was answered by the history before it with what others made.
-pub record IsExchange (alone : Bool) (seat need : ℕ) (before : List Operation) (x : Exchange) : Type 0 where
+-- The request was read whole, with a head within the limits, and was answered by the history before it with what others made. A
+-- turn may come of the boards before it.
+pub record IsExchange (alone : Bool) (boards : Boards) (seat need : ℕ) (before : List Operation) (x : Exchange) : Type 0 where
   pub is_head : IsRequestHead x.sent
   pub short : length (print_request x.sent) ≤ longest_head
   pub few : length x.sent.fields ≤ most_lines
@@ -57,12 +62,15 @@ pub record IsExchange (alone : Bool) (seat need : ℕ) (before : List Operation)
   pub went : IsExtended alone seat x.seen x.later
   pub legal : IsLegal is_frame (history_of x)
   pub answered : IsAnswered seat (name_of x.sent.target) x.body (needed need x.head) (asked_by x.head) x.seen x.later x.made x.reply
+  pub moved : Moves alone boards x.boards seat (asked_by x.head) before (history_of x) x.reply
+  pub out : StaysOut alone (history_of x) boards x.boards
 
 -- one after another, where none asked to close
-abbrev pub IsChain : Bool → ℕ → ℕ → List Operation → List Exchange → Type 0
-IsChain alone seat need before [] = Unit {0}
-IsChain alone seat need before (x ∷ xs) =
-    IsExchange alone seat need before x × (x.head.close ≡ false) × IsChain alone seat (need_of need x) (history_of x) xs
+abbrev pub IsChain : Bool → Boards → ℕ → ℕ → List Operation → List Exchange → Type 0
+IsChain alone boards seat need before [] = Unit {0}
+IsChain alone boards seat need before (x ∷ xs) =
+    IsExchange alone boards seat need before x × (x.head.close ≡ false)
+    × IsChain alone x.boards seat (need_of need x) (history_of x) xs
 
 abbrev pub messages : List Exchange → List ℕ
 messages [] = []
@@ -79,6 +87,15 @@ last_history before (x ∷ xs) = last_history (history_of x) xs
 abbrev pub last_need : ℕ → List Exchange → ℕ
 last_need need [] = need
 last_need need (x ∷ xs) = last_need (need_of need x) xs
+
+abbrev pub last_boards : Boards → List Exchange → Boards
+last_boards boards [] = boards
+last_boards boards (x ∷ xs) = last_boards x.boards xs
+
+-- how many turns may have taken a board
+abbrev pub turns_in : List Exchange → ℕ
+turns_in [] = 0
+turns_in (x ∷ xs) = taken_by (asked_by x.head) x.reply + turns_in xs
 
 -- what the seat made, in order
 abbrev pub all_made : List Exchange → List Operation

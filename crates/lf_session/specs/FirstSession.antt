@@ -1,5 +1,5 @@
--- A worked session, byte for byte: a commit, a registration, a look at what isn't published, and the same with the newest
--- version asked for.
+-- A worked session, byte for byte: a commit, a registration, a look at what isn't published, the same with the newest version
+-- asked for, a turn, a look at what it published, and a turn for which no frame waits.
 use Rattle.std.specs.Prelude.{List, [], ◌∷◌, ◌++◌, ℕ, true, false, Some, None, Ok, codes}
 use Rattle.httparse.specs.Grammar.{RequestHead, Field, crlf}
 use Rattle.lf_rdf.specs.declared.term.Term.TheVariants.{Iri, Literal}
@@ -7,6 +7,7 @@ use Rattle.lf_rdf.specs.declared.quad.Quad.{Quad}
 use Rattle.lf_rdf.specs.declared.quad.Patch.{Patch}
 use Rattle.lf_rdf.specs.Vocabulary.{xsd_string}
 use Rattle.lf_model.specs.declared.desk.FramedNow.{FramedNow}
+use Rattle.lf_model.specs.declared.desk.Look.{Look}
 use Rattle.lf_model.specs.declared.desk.Look.TheVariants as looked
 use Rattle.lf_http.specs.declared.head.Head.{Head}
 use Rattle.lf_http.specs.declared.head.Method.{Method}
@@ -16,9 +17,12 @@ use Rattle.lf_http.specs.declared.head.Target.TheVariants as target
 use Rattle.def_histories.specs.declared.operation.Operation.{Operation}
 use Rattle.def_histories.specs.declared.operation.Operation.TheVariants as entry
 use Rattle.def_histories.specs.Replay.{newest_dataset}
+use Rattle.def_turns.specs.declared.turned.Turned.TheVariants as turned
 use Rattle.lf_frames.specs.FrameTexts.{document}
+use Rattle.lf_desk.specs.Looks.{Shows}
 use Rattle.lf_session.specs.declared.ended.Ended.TheVariants as ended
-use Rattle.lf_session.specs.Replies.{commit_reply, register_reply, look_reply, framed_reply}
+use Rattle.lf_session.specs.Boards.{no_boards}
+use Rattle.lf_session.specs.Replies.{commit_reply, register_reply, look_reply, framed_reply, document_reply, turn_reply}
 use Rattle.lf_session.specs.Exchanges.{Exchange}
 use Rattle.lf_session.specs.Session.{nothing, IsSession}
 
@@ -29,14 +33,27 @@ first_input =
     ++ codes "PUT /frames/a HTTP/1.1\r\nHost: x\r\nContent-Length: 2\r\n\r\n{}"
     ++ codes "GET /frames/a HTTP/1.1\r\nHost: x\r\n\r\n"
     ++ codes "GET /frames/a HTTP/1.1\r\nHost: x\r\nLd-Refresh: now\r\n\r\n"
+    ++ codes "POST /turn HTTP/1.1\r\nHost: x\r\n\r\n"
+    ++ codes "GET /frames/a HTTP/1.1\r\nHost: x\r\n\r\n"
+    ++ codes "POST /turn HTTP/1.1\r\nHost: x\r\n\r\n"
 
--- what is sent
-abbrev pub first_output : List ℕ
-first_output =
+-- what is sent up to the first turn
+abbrev pub replies_before : List ℕ
+replies_before =
     codes "HTTP/1.1 200 OK\r\nContent-Type: application/json\r\nLd-Version: 1\r\nContent-Length: 13\r\n\r\n{\"version\":1}"
     ++ codes "HTTP/1.1 201 Created\r\nContent-Type: application/json\r\nContent-Length: 13\r\n\r\n{\"frame\":\"a\"}"
     ++ codes "HTTP/1.1 202 Accepted\r\nContent-Type: application/json\r\nContent-Length: 22\r\n\r\n{\"have\":null,\"need\":1}"
     ++ codes "HTTP/1.1 200 OK\r\nContent-Type: application/ld+json\r\nLd-Version: 1\r\nContent-Length: 37\r\n\r\n{\"@id\":\"http://e/a\",\"http://e/p\":\"x\"}"
+
+-- and from there on
+abbrev pub replies_from : List ℕ
+replies_from =
+    codes "HTTP/1.1 200 OK\r\nContent-Type: application/json\r\nContent-Length: 44\r\n\r\n{\"frame\":\"a\",\"turn\":\"published\",\"version\":1}"
+    ++ codes "HTTP/1.1 200 OK\r\nContent-Type: application/ld+json\r\nLd-Version: 1\r\nContent-Length: 37\r\n\r\n{\"@id\":\"http://e/a\",\"http://e/p\":\"x\"}"
+    ++ codes "HTTP/1.1 200 OK\r\nContent-Type: application/json\r\nContent-Length: 15\r\n\r\n{\"turn\":\"idle\"}"
+
+abbrev pub first_output : List ℕ
+first_output = replies_before ++ replies_from
 
 -- what was made
 abbrev pub quad : Quad
@@ -55,6 +72,9 @@ one_commit = entry.Commit 0 patch ∷ []
 
 abbrev pub first_history : List Operation
 first_history = entry.Commit 0 patch ∷ entry.Register 0 (codes "a") (codes "{}") ∷ []
+
+abbrev pub published_history : List Operation
+published_history = first_history ++ entry.Publish (codes "a") 1 ∷ []
 
 -- its requests
 abbrev pub field : List ℕ → List ℕ → Field
@@ -86,6 +106,7 @@ commit_exchange = record {
   seen = [];
   later = [];
   made = one_commit;
+  boards = no_boards;
   reply = commit_reply (Ok 1);
 }
 
@@ -97,6 +118,7 @@ register_exchange = record {
   seen = one_commit;
   later = one_commit;
   made = entry.Register 0 (codes "a") (codes "{}") ∷ [];
+  boards = no_boards;
   reply = register_reply (codes "a") (Ok true);
 }
 
@@ -108,6 +130,7 @@ look_exchange = record {
   seen = first_history;
   later = first_history;
   made = [];
+  boards = no_boards;
   reply = look_reply (Ok (looked.Pending None 1));
 }
 
@@ -133,12 +156,58 @@ refresh_exchange = record {
   seen = first_history;
   later = first_history;
   made = [];
+  boards = no_boards;
   reply = framed_reply (Ok (Some framed_now));
 }
 
-abbrev pub first_exchanges : List Exchange
-first_exchanges = commit_exchange ∷ register_exchange ∷ look_exchange ∷ refresh_exchange ∷ []
+abbrev pub turn_exchange : Exchange
+turn_exchange = record {
+  sent = request_head (codes "POST") (codes "/turn") [];
+  head = head_with method.Post target.TurnAt 0;
+  body = [];
+  seen = first_history;
+  later = first_history;
+  made = entry.Publish (codes "a") 1 ∷ [];
+  boards = no_boards;
+  reply = turn_reply (Ok (turned.Published (codes "a") 1));
+}
 
--- it is a session of a seat that is alone, from an empty history on
+abbrev pub published_exchange : Exchange
+published_exchange = record {
+  sent = request_head (codes "GET") (codes "/frames/a") [];
+  head = head_with method.Get target.FrameAt 0;
+  body = [];
+  seen = published_history;
+  later = published_history;
+  made = [];
+  boards = no_boards;
+  reply = document_reply framed_now.doc 1;
+}
+
+abbrev pub idle_exchange : Exchange
+idle_exchange = record {
+  sent = request_head (codes "POST") (codes "/turn") [];
+  head = head_with method.Post target.TurnAt 0;
+  body = [];
+  seen = published_history;
+  later = published_history;
+  made = [];
+  boards = no_boards;
+  reply = turn_reply (Ok turned.Idle);
+}
+
+abbrev pub exchanges_before : List Exchange
+exchanges_before = commit_exchange ∷ register_exchange ∷ look_exchange ∷ refresh_exchange ∷ []
+
+abbrev pub exchanges_from : List Exchange
+exchanges_from = turn_exchange ∷ published_exchange ∷ idle_exchange ∷ []
+
+abbrev pub first_exchanges : List Exchange
+first_exchanges = exchanges_before ++ exchanges_from
+
+-- It is a session of a seat that is alone, from an empty history on, where no board is away. The last look is one that shows
+-- the published document by some handle.
 abbrev pub FirstSession : Type 0
-FirstSession = IsSession true 0 first_input (Some []) [] first_history first_output ended.Clean first_exchanges nothing
+FirstSession =
+    (look : Look) → Shows published_history (codes "a") 1 look
+    → IsSession true no_boards 0 first_input (Some []) [] published_history first_output ended.Clean first_exchanges nothing

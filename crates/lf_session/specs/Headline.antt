@@ -14,6 +14,7 @@ use Rattle.lf_session.specs.declared.ended.Ended.{Ended}
 use Rattle.lf_session.specs.declared.request.Asked.{Asked}
 use Rattle.lf_session.specs.declared.request.Asked.TheVariants as asked
 use Rattle.lf_session.specs.Bodies.{pending_body}
+use Rattle.lf_session.specs.Boards.{Boards}
 use Rattle.lf_session.specs.Replies.{Reply, plain, document_reply}
 use Rattle.lf_session.specs.Requests.{asked_by}
 use Rattle.lf_session.specs.Exchanges.{Exchange, need_of, needed, all_made}
@@ -44,6 +45,7 @@ asks_for_document asked.Put = false
 asks_for_document asked.Delete = false
 asks_for_document asked.Commit = false
 asks_for_document asked.Version = false
+asks_for_document asked.Turn = false
 
 -- A document, or the error or limit that stands in its place, is of one version: whatever is sent as JSON-LD, each 200 for a
 -- frame's document, and each such reply that names a version. Pending comes where none is new enough.
@@ -81,6 +83,6 @@ pub record IsHeadline (seat : ℕ) (before after : List Operation) (xs : List Ex
 -- so it is of each stream that is served
 abbrev pub SessionsHold : Type 0
 SessionsHold =
-    (alone : Bool) (seat : ℕ) (bytes written : List ℕ) (left : Option (List ℕ)) (before after : List Operation) (end : Ended)
+    (alone : Bool) (boards : Boards) (seat : ℕ) (bytes written : List ℕ) (left : Option (List ℕ)) (before after : List Operation) (end : Ended)
     (xs : List Exchange) (last : Last)
-    → IsSession alone seat bytes left before after written end xs last → IsHeadline seat before after (answered xs last)
+    → IsSession alone boards seat bytes left before after written end xs last → IsHeadline seat before after (answered xs last)

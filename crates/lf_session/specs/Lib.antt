@@ -2,6 +2,8 @@ pub mod Bodies
 pub mod Tokens
 pub mod Replies
 pub mod Requests
+pub mod Boards
+pub mod Moving
 pub mod Answers
 pub mod Steps
 pub mod Shown
@@ -11,6 +13,8 @@ pub mod Headline
 pub mod Served
 pub mod Refreshing
 pub mod Made
+pub mod LoneTurns
+pub mod Looking
 pub mod Whole
 pub mod Told
 pub mod ReplyCases

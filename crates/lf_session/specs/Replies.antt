@@ -3,6 +3,8 @@ use Rattle.std.specs.Prelude.{List, [], ◌++◌, ℕ, Bool, true, false, length
 use Rattle.std.specs.Arc.{arc_value}
 use Rattle.lf_base.specs.declared.memory.Memory.{Memory}
 use Rattle.def_patch_texts.specs.declared.kind.LineKind.{LineKind}
+use Rattle.def_turns.specs.declared.turned.Turned.{Turned}
+use Rattle.def_turns.specs.declared.turned.Turned.TheVariants as t
 use Rattle.lf_model.specs.ErrorName.{name_of}
 use Rattle.lf_desk.specs.declared.refusals.CommitErr.{CommitErr}
 use Rattle.lf_desk.specs.declared.refusals.CommitErr.TheVariants as c
@@ -20,7 +22,7 @@ use Rattle.lf_http.specs.declared.head.Method.TheVariants as method
 use Rattle.lf_http.specs.declared.reply.Allow.{Allow}
 use Rattle.lf_http.specs.declared.reply.Allow.TheVariants.{NoAllow}
 use Rattle.lf_http.specs.Reply.{reply_text}
-use Rattle.lf_session.specs.Bodies.{error_body, frame_body, version_body, pending_body, bad_line_body, frame_too_long_body, too_many_body, history_full_body, fractional_body, limit_body}
+use Rattle.lf_session.specs.Bodies.{error_body, frame_body, version_body, pending_body, bad_line_body, frame_too_long_body, too_many_body, history_full_body, fractional_body, limit_body, idle_body, published_body, home_body, superseded_body}
 
 -- what a reply says, apart from whether the stream ends after it
 pub record Reply : Type 0 where
@@ -91,6 +93,14 @@ abbrev pub framed_reply : Result (Option FramedNow) Memory → Reply
 framed_reply (Ok (Some framed)) = document_reply framed.doc framed.version
 framed_reply (Ok None) = unknown_frame
 framed_reply (Err refused) = out_of_memory
+
+-- what came of a turn; a document that it published is sent by `GET` alone
+abbrev pub turn_reply : Result Turned Memory → Reply
+turn_reply (Ok t.Idle) = plain 200 idle_body
+turn_reply (Ok (t.Published name version)) = plain 200 (published_body name version)
+turn_reply (Ok (t.Home name version)) = plain 200 (home_body name)
+turn_reply (Ok (t.Superseded name was now)) = plain 200 (superseded_body name was now)
+turn_reply (Err refused) = out_of_memory
 
 -- the reply to `HEAD` is sent without its body (RFC 9110, section 9.3.2)
 abbrev pub sent_body : Method → List ℕ → List ℕ

@@ -7,6 +7,7 @@ use Rattle.lf_desk.specs.declared.refusals.CommitErr.TheVariants as c
 use Rattle.lf_desk.specs.declared.refusals.RegisterErr.TheVariants as r
 use Rattle.lf_model.specs.declared.desk.Look.TheVariants as looked
 use Rattle.lf_model.specs.declared.document.Doc.TheVariants as doc
+use Rattle.def_turns.specs.declared.turned.Turned.TheVariants as turned
 use Rattle.lf_model.specs.declared.document.Limit.TheVariants as limits
 use Rattle.lf_http.specs.declared.head.HeadErr.TheVariants as h
 use Rattle.lf_http.specs.declared.head.Method.{Method}
@@ -14,14 +15,14 @@ use Rattle.lf_http.specs.declared.head.Method.TheVariants as method
 use Rattle.lf_http.specs.declared.reply.Allow.TheVariants as allow
 use Rattle.lf_http.specs.Reply.{reason, crlf, status_text, media_text, allow_text, version_line, close_text, length_text}
 use Rattle.lf_session.specs.declared.request.Refusal.TheVariants as why
-use Rattle.lf_session.specs.Bodies.{error_body, frame_body, version_body, pending_body, bad_line_body, frame_too_long_body, too_many_body, history_full_body, fractional_body, limit_body}
+use Rattle.lf_session.specs.Bodies.{error_body, frame_body, version_body, pending_body, bad_line_body, frame_too_long_body, too_many_body, history_full_body, fractional_body, limit_body, idle_body, published_body, home_body, superseded_body}
 use Rattle.lf_names.specs.Names.{kind_name, counted_name, limit_name, limit_number}
-use Rattle.lf_session.specs.Replies.{Reply, plain, commit_reply, register_reply, retire_reply, look_reply, framed_reply, document_reply, reply_bytes, refusal, refusal_bytes}
+use Rattle.lf_session.specs.Replies.{Reply, plain, commit_reply, register_reply, retire_reply, look_reply, framed_reply, document_reply, turn_reply, reply_bytes, refusal, refusal_bytes}
 use Rattle.lf_session.specs.Requests.{refused_reply}
 
 -- the texts of replies, which compute here
 unfoldable pub replies_open : Unit {0}
-unfolding reason crlf status_text media_text allow_text version_line close_text length_text digits error_body frame_body version_body pending_body bad_line_body kind_name frame_too_long_body too_many_body counted_name history_full_body fractional_body limit_name limit_number limit_body
+unfolding reason crlf status_text media_text allow_text version_line close_text length_text digits error_body frame_body version_body pending_body bad_line_body kind_name frame_too_long_body too_many_body counted_name history_full_body fractional_body limit_name limit_number limit_body idle_body published_body home_body superseded_body
 replies_open = tt
 
 abbrev pub a : List ℕ
@@ -152,3 +153,16 @@ pub limit_bodies :
     × (limit_body limits.DocumentBytes ≡ codes "{\"error\":\"document limit\",\"limit\":\"document bytes\",\"number\":33554432}")
 unfolding replies_open
 limit_bodies = (refl, refl, refl, refl)
+
+-- ---- turns
+
+pub turns :
+    (turn_reply (Ok turned.Idle) ≡ plain 200 (codes "{\"turn\":\"idle\"}"))
+    × (turn_reply (Ok (turned.Published a 1)) ≡ plain 200 (codes "{\"frame\":\"a\",\"turn\":\"published\",\"version\":1}"))
+    × (turn_reply (Ok (turned.Home a (Some 1))) ≡ plain 200 (codes "{\"frame\":\"a\",\"turn\":\"home\"}"))
+    × (turn_reply (Ok (turned.Superseded a 1 (Some 2)))
+    ≡ plain 200 (codes "{\"frame\":\"a\",\"now\":2,\"then\":1,\"turn\":\"superseded\"}"))
+    × (turn_reply (Ok (turned.Superseded a 1 None))
+    ≡ plain 200 (codes "{\"frame\":\"a\",\"now\":null,\"then\":1,\"turn\":\"superseded\"}"))
+unfolding replies_open
+turns = (refl, refl, refl, refl, refl)

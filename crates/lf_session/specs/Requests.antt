@@ -5,7 +5,6 @@ use Rattle.lf_http.specs.declared.head.Method.{Method}
 use Rattle.lf_http.specs.declared.head.Method.TheVariants as method
 use Rattle.lf_http.specs.declared.head.Target.{Target}
 use Rattle.lf_http.specs.declared.head.Target.TheVariants as target
-use Rattle.lf_http.specs.declared.reply.Allow.{Allow}
 use Rattle.lf_http.specs.declared.reply.Allow.TheVariants as allow
 use Rattle.lf_session.specs.declared.request.Refusal.{Refusal}
 use Rattle.lf_session.specs.declared.request.Refusal.TheVariants as refused
@@ -32,6 +31,14 @@ at_patch method.Delete = asked.Refused (refused.MethodNotAllowed allow.Post)
 at_patch method.HeadOnly = asked.Refused (refused.MethodNotAllowed allow.Post)
 at_patch method.OtherMethod = asked.Refused (refused.MethodNotAllowed allow.Post)
 
+abbrev pub at_turn : Method → Asked
+at_turn method.Post = asked.Turn
+at_turn method.Get = asked.Refused (refused.MethodNotAllowed allow.Post)
+at_turn method.Put = asked.Refused (refused.MethodNotAllowed allow.Post)
+at_turn method.Delete = asked.Refused (refused.MethodNotAllowed allow.Post)
+at_turn method.HeadOnly = asked.Refused (refused.MethodNotAllowed allow.Post)
+at_turn method.OtherMethod = asked.Refused (refused.MethodNotAllowed allow.Post)
+
 abbrev pub at_version : Method → Asked
 at_version method.Get = asked.Version
 at_version method.Put = asked.Refused (refused.MethodNotAllowed allow.Get)
@@ -44,6 +51,7 @@ abbrev pub at_target : Head → Target → Asked
 at_target head target.FrameAt = at_frame head.method head.now
 at_target head target.PatchAt = at_patch head.method
 at_target head target.VersionAt = at_version head.method
+at_target head target.TurnAt = at_turn head.method
 at_target head target.NoTarget = asked.Refused refused.NoSuchPath
 
 -- a line of the session that isn't well formed
@@ -62,6 +70,7 @@ with_lines head asked.Get = checked head asked.Get
 with_lines head asked.GetNow = checked head asked.GetNow
 with_lines head asked.Commit = checked head asked.Commit
 with_lines head asked.Version = checked head asked.Version
+with_lines head asked.Turn = checked head asked.Turn
 
 -- what is asked for
 abbrev pub asked_by : Head → Asked

@@ -1,7 +1,10 @@
 -- What the desk does for one request.
-use Rattle.std.specs.Prelude.{◌≡◌, List, ◌++◌, ℕ, Bool}
+use Rattle.std.specs.Prelude.{◌≡◌, List, ◌++◌, ℕ, Bool, ◌≤◌, length, Result, Ok, Err}
+use Rattle.lf_base.specs.declared.memory.Memory.{Memory}
 use Rattle.def_histories.specs.declared.operation.Operation.{Operation}
 use Rattle.def_histories.specs.Legal.{IsLegal}
+use Rattle.def_turns.specs.declared.turned.Turned.{Turned}
+use Rattle.def_turns.specs.declared.turned.Turned.TheVariants as t
 use Rattle.lf_frames.specs.FrameTexts.{is_frame}
 use Rattle.lf_desk.specs.Seats.{IsExtended}
 use Rattle.lf_session.specs.declared.request.Asked.{Asked}
@@ -18,3 +21,11 @@ pub record IsStep (alone : Bool) (seat need : ℕ) (name body : List ℕ) (asked
   pub follows : after ≡ later ++ made
   pub legal : IsLegal is_frame after
   pub answered : IsAnswered seat name body need asked seen later made reply
+
+-- the name of a frame that is told has at most 64 bytes
+abbrev pub HasShortName : Result Turned Memory → Type 0
+HasShortName (Ok t.Idle) = Unit {0}
+HasShortName (Ok (t.Published name version)) = length name ≤ 64
+HasShortName (Ok (t.Home name version)) = length name ≤ 64
+HasShortName (Ok (t.Superseded name was now)) = length name ≤ 64
+HasShortName (Err refused) = Unit {0}

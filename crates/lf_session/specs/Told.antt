@@ -8,6 +8,7 @@ use Rattle.lf_http.specs.Reading.{longest_head, most_lines}
 use Rattle.def_histories.specs.declared.operation.Operation.{Operation}
 use Rattle.lf_session.specs.declared.ended.Ended.{Ended}
 use Rattle.lf_session.specs.declared.ended.Ended.TheVariants as ended
+use Rattle.lf_session.specs.Boards.{Boards}
 use Rattle.lf_session.specs.Replies.{Reply, refusal}
 use Rattle.lf_session.specs.Exchanges.{Exchange}
 use Rattle.lf_session.specs.Session.{Last, IsSession}
@@ -73,8 +74,8 @@ pub record AreAnswered (tail : Tail) (ms : List Message) (xs : List Exchange) (e
 
 abbrev pub StreamsEndAsTold : Type 0
 StreamsEndAsTold =
-    (alone : Bool) (seat : ℕ) (bytes written : List ℕ) (left : Option (List ℕ)) (before after : List Operation) (end : Ended)
+    (alone : Bool) (boards : Boards) (seat : ℕ) (bytes written : List ℕ) (left : Option (List ℕ)) (before after : List Operation) (end : Ended)
     (xs : List Exchange) (last : Last) (ms : List Message) (tail : Tail) (part : List ℕ)
     → All IsWholeMessage ms → IsTail tail part → Some (all_bytes ms ++ part) ≡ prepended bytes left
-    → IsSession alone seat bytes left before after written end xs last
+    → IsSession alone boards seat bytes left before after written end xs last
     → AreAnswered tail ms (answered xs last) end

@@ -8,6 +8,7 @@ use Rattle.lf_http.specs.Reading.{longest_head, most_lines}
 use Rattle.def_histories.specs.declared.operation.Operation.{Operation}
 use Rattle.lf_session.specs.declared.ended.Ended.{Ended}
 use Rattle.lf_session.specs.declared.ended.Ended.TheVariants as ended
+use Rattle.lf_session.specs.Boards.{Boards}
 use Rattle.lf_session.specs.Exchanges.{Exchange}
 use Rattle.lf_session.specs.Session.{Last, IsSession}
 use Rattle.lf_session.specs.Headline.{answered}
@@ -57,8 +58,8 @@ pub record AreServed (ms : List Message) (xs : List Exchange) (end : Ended) : Ty
 
 abbrev pub WholeStreamsAreServed : Type 0
 WholeStreamsAreServed =
-    (alone : Bool) (seat : ℕ) (bytes written : List ℕ) (left : Option (List ℕ)) (before after : List Operation) (end : Ended)
+    (alone : Bool) (boards : Boards) (seat : ℕ) (bytes written : List ℕ) (left : Option (List ℕ)) (before after : List Operation) (end : Ended)
     (xs : List Exchange) (last : Last) (ms : List Message)
     → All IsWholeMessage ms → Some (all_bytes ms) ≡ prepended bytes left
-    → IsSession alone seat bytes left before after written end xs last
+    → IsSession alone boards seat bytes left before after written end xs last
     → AreServed ms (answered xs last) end

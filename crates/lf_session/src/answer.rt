@@ -5,6 +5,8 @@ ghost use Rattle.lf_model.specs.declared.desk.Look.TheVariants.{Pending};
 ghost use Rattle.def_histories.specs.declared.operation.Operation.{Operation};
 ghost use Rattle.lf_desk.specs.Calls.{IsCall};
 ghost use Rattle.lf_session.specs.Bodies.{frame_body};
+ghost use Rattle.lf_session.specs.Boards.{KeepsBoards, StaysOut, boards_of};
+ghost use Rattle.lf_session.specs.Moving.{Moves};
 ghost use Rattle.lf_session.specs.Answers.{IsPatch, Refreshes};
 ghost use Rattle.lf_session.specs.Shown.{shown};
 ghost use Rattle.lf_session.specs.Steps.{IsStep};
@@ -17,8 +19,9 @@ use crate::reply::{
 };
 use crate::request::Asked;
 use crate::texts::frame_text;
+use crate::turning::answer_turn;
 use lf_base::{Memory, Text};
-use lf_desk::Desk;
+use lf_desk::{Desk, Rota};
 use lf_model::Look;
 use lf_nquads::{LineErr, read_patch};
 use lf_rdf::Patch;
@@ -27,6 +30,7 @@ use std::alloc::Global;
 fn answer_version<D: Desk>(desk: &mut D) -> Reply
     ensures step { (need : ℕ) (name body : List ℕ) → IsStep (D.alone desk.old) (D.seat desk.old) need name body asks.Version
         (D.history desk.old) (D.history desk.new) (shown result) }
+    ensures keeps { KeepsBoards (D.alone desk.old) (D.history desk.new) (boards_of (D.away desk.old) (D.taken desk.old)) (boards_of (D.away desk.new) (D.taken desk.new)) }
     ensures same_seat { D.seat desk.new ≡ D.seat desk.old }
     ensures same_alone { D.alone desk.new ≡ D.alone desk.old }
     ensures named { IsTrue (is_named result.status) }
@@ -37,6 +41,7 @@ fn answer_version<D: Desk>(desk: &mut D) -> Reply
 fn answer_get<D: Desk>(alloc: Global, desk: &mut D, name: &str, need: u64) -> Reply
     ensures step { (body : List ℕ) → IsStep (D.alone desk.old) (D.seat desk.old) need name.now body asks.Get
         (D.history desk.old) (D.history desk.new) (shown result) }
+    ensures keeps { KeepsBoards (D.alone desk.old) (D.history desk.new) (boards_of (D.away desk.old) (D.taken desk.old)) (boards_of (D.away desk.new) (D.taken desk.new)) }
     ensures same_seat { D.seat desk.new ≡ D.seat desk.old }
     ensures same_alone { D.alone desk.new ≡ D.alone desk.old }
     ensures named { IsTrue (is_named result.status) }
@@ -49,6 +54,7 @@ fn register<D: Desk>(alloc: Global, desk: &mut D, name: &str, text: &str) -> Rep
     requires { IsUtf8 text.now }
     ensures step { (need : ℕ) → IsStep (D.alone desk.old) (D.seat desk.old) need name.now text.now asks.Put
         (D.history desk.old) (D.history desk.new) (shown result) }
+    ensures keeps { KeepsBoards (D.alone desk.old) (D.history desk.new) (boards_of (D.away desk.old) (D.taken desk.old)) (boards_of (D.away desk.new) (D.taken desk.new)) }
     ensures same_seat { D.seat desk.new ≡ D.seat desk.old }
     ensures same_alone { D.alone desk.new ≡ D.alone desk.old }
     ensures named { IsTrue (is_named result.status) }
@@ -62,6 +68,7 @@ fn register<D: Desk>(alloc: Global, desk: &mut D, name: &str, text: &str) -> Rep
 fn answer_put<D: Desk>(alloc: Global, desk: &mut D, name: &str, body: &[u8]) -> Reply
     ensures step { (need : ℕ) → IsStep (D.alone desk.old) (D.seat desk.old) need name.now body.now asks.Put
         (D.history desk.old) (D.history desk.new) (shown result) }
+    ensures keeps { KeepsBoards (D.alone desk.old) (D.history desk.new) (boards_of (D.away desk.old) (D.taken desk.old)) (boards_of (D.away desk.new) (D.taken desk.new)) }
     ensures same_seat { D.seat desk.new ≡ D.seat desk.old }
     ensures same_alone { D.alone desk.new ≡ D.alone desk.old }
     ensures named { IsTrue (is_named result.status) }
@@ -77,6 +84,7 @@ fn retire<D: Desk>(alloc: Global, desk: &mut D, name: &str, text: Text) -> Reply
     requires { text ≡ frame_body name.now }
     ensures step { (need : ℕ) (body : List ℕ) → IsStep (D.alone desk.old) (D.seat desk.old) need name.now body asks.Delete
         (D.history desk.old) (D.history desk.new) (shown result) }
+    ensures keeps { KeepsBoards (D.alone desk.old) (D.history desk.new) (boards_of (D.away desk.old) (D.taken desk.old)) (boards_of (D.away desk.new) (D.taken desk.new)) }
     ensures same_seat { D.seat desk.new ≡ D.seat desk.old }
     ensures same_alone { D.alone desk.new ≡ D.alone desk.old }
     ensures named { IsTrue (is_named result.status) }
@@ -91,6 +99,7 @@ fn retire<D: Desk>(alloc: Global, desk: &mut D, name: &str, text: Text) -> Reply
 fn answer_delete<D: Desk>(alloc: Global, desk: &mut D, name: &str) -> Reply
     ensures step { (need : ℕ) (body : List ℕ) → IsStep (D.alone desk.old) (D.seat desk.old) need name.now body asks.Delete
         (D.history desk.old) (D.history desk.new) (shown result) }
+    ensures keeps { KeepsBoards (D.alone desk.old) (D.history desk.new) (boards_of (D.away desk.old) (D.taken desk.old)) (boards_of (D.away desk.new) (D.taken desk.new)) }
     ensures same_seat { D.seat desk.new ≡ D.seat desk.old }
     ensures same_alone { D.alone desk.new ≡ D.alone desk.old }
     ensures named { IsTrue (is_named result.status) }
@@ -112,6 +121,7 @@ fn refresh<D: Desk>(
 ) -> Reply
     ensures call { IsCall (D.alone desk.old) (D.seat desk.old) (D.history desk.old) (D.history desk.new) []
         (λ later. Refreshes name.now need [] later (Ok (Pending have needed)) (shown result)) }
+    ensures keeps { KeepsBoards (D.alone desk.old) (D.history desk.new) (boards_of (D.away desk.old) (D.taken desk.old)) (boards_of (D.away desk.new) (D.taken desk.new)) }
     ensures same_seat { D.seat desk.new ≡ D.seat desk.old }
     ensures same_alone { D.alone desk.new ≡ D.alone desk.old }
     ensures named { IsTrue (is_named result.status) }
@@ -126,6 +136,7 @@ fn refresh<D: Desk>(
 fn answer_now<D: Desk>(alloc: Global, desk: &mut D, name: &str, need: u64) -> Reply
     ensures step { (body : List ℕ) → IsStep (D.alone desk.old) (D.seat desk.old) need name.now body asks.GetNow
         (D.history desk.old) (D.history desk.new) (shown result) }
+    ensures keeps { KeepsBoards (D.alone desk.old) (D.history desk.new) (boards_of (D.away desk.old) (D.taken desk.old)) (boards_of (D.away desk.new) (D.taken desk.new)) }
     ensures same_seat { D.seat desk.new ≡ D.seat desk.old }
     ensures same_alone { D.alone desk.new ≡ D.alone desk.old }
     ensures named { IsTrue (is_named result.status) }
@@ -142,6 +153,7 @@ fn answer_now<D: Desk>(alloc: Global, desk: &mut D, name: &str, need: u64) -> Re
 fn commit<D: Desk>(alloc: Global, desk: &mut D, patch: Patch) -> Reply
     ensures step { (need : ℕ) (name body : List ℕ) → IsPatch body patch
         → IsStep (D.alone desk.old) (D.seat desk.old) need name body asks.Commit (D.history desk.old) (D.history desk.new) (shown result) }
+    ensures keeps { KeepsBoards (D.alone desk.old) (D.history desk.new) (boards_of (D.away desk.old) (D.taken desk.old)) (boards_of (D.away desk.new) (D.taken desk.new)) }
     ensures same_seat { D.seat desk.new ≡ D.seat desk.old }
     ensures same_alone { D.alone desk.new ≡ D.alone desk.old }
     ensures named { IsTrue (is_named result.status) }
@@ -153,6 +165,7 @@ fn answer_commit<D: Desk>(alloc: Global, desk: &mut D, body: &[u8]) -> Reply
     requires short { length body.now ≤ 67108864 }
     ensures step { (need : ℕ) (name : List ℕ) → IsStep (D.alone desk.old) (D.seat desk.old) need name body.now asks.Commit
         (D.history desk.old) (D.history desk.new) (shown result) }
+    ensures keeps { KeepsBoards (D.alone desk.old) (D.history desk.new) (boards_of (D.away desk.old) (D.taken desk.old)) (boards_of (D.away desk.new) (D.taken desk.new)) }
     ensures same_seat { D.seat desk.new ≡ D.seat desk.old }
     ensures same_alone { D.alone desk.new ≡ D.alone desk.old }
     ensures named { IsTrue (is_named result.status) }
@@ -165,7 +178,7 @@ fn answer_commit<D: Desk>(alloc: Global, desk: &mut D, body: &[u8]) -> Reply
 }
 
 /// Answers a request by the desk. Its body has at most 67,108,864 bytes.
-pub fn answer<D: Desk>(
+pub fn answer<D: Rota>(
     alloc: Global,
     desk: &mut D,
     asked: Asked,
@@ -176,6 +189,9 @@ pub fn answer<D: Desk>(
     requires short { length body.now ≤ 67108864 }
     ensures step { IsStep (D.alone desk.old) (D.seat desk.old) need name.now body.now asked (D.history desk.old) (D.history desk.new)
         (shown result) }
+    ensures moved { Moves (D.alone desk.old) (boards_of (D.away desk.old) (D.taken desk.old)) (boards_of (D.away desk.new) (D.taken desk.new))
+        (D.seat desk.old) asked (D.history desk.old) (D.history desk.new) (shown result) }
+    ensures out { StaysOut (D.alone desk.old) (D.history desk.new) (boards_of (D.away desk.old) (D.taken desk.old)) (boards_of (D.away desk.new) (D.taken desk.new)) }
     ensures same_seat { D.seat desk.new ≡ D.seat desk.old }
     ensures same_alone { D.alone desk.new ≡ D.alone desk.old }
     ensures named { IsTrue (is_named result.status) }
@@ -188,5 +204,6 @@ pub fn answer<D: Desk>(
         Asked::GetNow => answer_now(alloc, desk, name, need),
         Asked::Commit => answer_commit(alloc, desk, body),
         Asked::Version => answer_version(desk),
+        Asked::Turn => answer_turn(alloc, desk),
     }
 }

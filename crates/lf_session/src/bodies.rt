@@ -1,7 +1,7 @@
 //! Bodies of replies that take no memory, as JSON texts in compact form (RFC 8259).
 ghost use Rattle.std.specs.Prelude.{◌≡◌, ◌+◌, ◌≤◌, ◌++◌, [], length, codes, decimal};
 ghost use Rattle.lf_http.specs.ShortText.{short_room, number_room};
-ghost use Rattle.lf_session.specs.Bodies.{error_body, frame_body, version_body, number_or_null, pending_body, bad_line_body, frame_too_long_body, too_many_body, history_full_body, limit_body};
+ghost use Rattle.lf_session.specs.Bodies.{error_body, frame_body, version_body, number_or_null, pending_body, bad_line_body, frame_too_long_body, too_many_body, history_full_body, limit_body, idle_body, published_body, home_body, superseded_body};
 
 use def_patch_texts::LineKind;
 use lf_http::{ShortText, put, put_number};
@@ -143,5 +143,55 @@ pub fn limit_body(limit: Limit) -> ShortText
     put(&mut body, b"\",\"number\":");
     put_number(&mut body, limit_number(limit));
     put(&mut body, b"}");
+    body
+}
+
+/// A turn for which no frame waits.
+#[tactic(auto, unfolding(crate::specs::Bodies::idle_body))]
+pub fn idle_body() -> ShortText
+    ensures { result.items ≡ idle_body }
+{
+    begin(b"{\"turn\":\"idle\"}")
+}
+
+/// A turn that published a version of a frame's document.
+#[tactic(auto, unfolding(crate::specs::Bodies::published_body))]
+pub fn published_body(name: &[u8], version: u64) -> ShortText
+    requires { length name.now ≤ 64 }
+    ensures { result.items ≡ published_body name.now version }
+{
+    let mut body = begin(b"{\"frame\":\"");
+    put(&mut body, name);
+    put(&mut body, b"\",\"turn\":\"published\",\"version\":");
+    put_number(&mut body, version);
+    put(&mut body, b"}");
+    body
+}
+
+/// A turn whose board is at home again.
+#[tactic(auto, unfolding(crate::specs::Bodies::home_body))]
+pub fn home_body(name: &[u8]) -> ShortText
+    requires { length name.now ≤ 64 }
+    ensures { result.items ≡ home_body name.now }
+{
+    let mut body = begin(b"{\"frame\":\"");
+    put(&mut body, name);
+    put(&mut body, b"\",\"turn\":\"home\"}");
+    body
+}
+
+/// A turn whose board's text isn't live any more: the numbers of that text and of the live one.
+#[tactic(auto, unfolding(crate::specs::Bodies::superseded_body))]
+pub fn superseded_body(name: &[u8], was: u64, now: Option<u64>) -> ShortText
+    requires { length name.now ≤ 64 }
+    ensures { result.items ≡ superseded_body name.now was now }
+{
+    let mut body = begin(b"{\"frame\":\"");
+    put(&mut body, name);
+    put(&mut body, b"\",\"now\":");
+    put_number_or_null(&mut body, now);
+    put(&mut body, b",\"then\":");
+    put_number(&mut body, was);
+    put(&mut body, b",\"turn\":\"superseded\"}");
     body
 }

@@ -2,6 +2,8 @@
 ghost use Rattle.lf_session.specs.BodyLaws.{BodiesAreJson};
 ghost use Rattle.lf_session.specs.FirstSession.{FirstSession};
 ghost use Rattle.lf_session.specs.Headline.{SessionsHold};
+ghost use Rattle.lf_session.specs.LoneTurns.{LoneTurnsPublish};
+ghost use Rattle.lf_session.specs.Looking.{GetsAreAnswered};
 ghost use Rattle.lf_session.specs.Made.{RepliesTellWhatWasMade};
 ghost use Rattle.lf_session.specs.Refreshing.{RefreshesAreAnswered};
 ghost use Rattle.lf_session.specs.Told.{StreamsEndAsTold};
@@ -28,6 +30,18 @@ pub fn replies_tell_what_was_made()
 /// name was retired meanwhile or no memory is found.
 pub fn refreshes_are_answered()
     ensures { RefreshesAreAnswered }
+{}
+
+/// A `GET` of a frame is answered by the published document, with its version, where that is new enough, unless no memory is
+/// found for a handle of it. It is told that the document is still to come exactly where none is new enough.
+pub fn gets_are_answered()
+    ensures { GetsAreAnswered }
+{}
+
+/// A turn of a seat that is alone, where no board is away at the start, publishes the frame that is next. It is answered that
+/// no frame waits exactly where none does, unless no memory is found.
+pub fn lone_turns_publish()
+    ensures { LoneTurnsPublish }
 {}
 
 /// A stream of whole messages is answered to its end, or until it asks to close, unless a read or a write fails or no memory

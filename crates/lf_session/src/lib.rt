@@ -13,10 +13,12 @@ mod serve;
 #[cfg(test)]
 mod tests;
 mod texts;
+mod turning;
 
 pub use ended::Ended;
 pub use law::{
-    bodies_are_json, first_session, refreshes_are_answered, replies_tell_what_was_made,
-    sessions_hold, streams_end_as_told, whole_streams_are_served, worked_ends,
+    bodies_are_json, first_session, gets_are_answered, lone_turns_publish, refreshes_are_answered,
+    replies_tell_what_was_made, sessions_hold, streams_end_as_told, whole_streams_are_served,
+    worked_ends,
 };
 pub use serve::serve_stream;

@@ -1,6 +1,6 @@
 //! What an accepted head asks for.
 ghost use Rattle.std.specs.Prelude.{◌≡◌};
-ghost use Rattle.lf_session.specs.Requests.{asked_by, at_target, at_frame, at_patch, at_version, checked, with_lines};
+ghost use Rattle.lf_session.specs.Requests.{asked_by, at_target, at_frame, at_patch, at_turn, at_version, checked, with_lines};
 
 use lf_http::{Allow, Head, Method, Target};
 
@@ -34,6 +34,8 @@ pub enum Asked {
     Commit,
     /// `GET /version`.
     Version,
+    /// `POST /turn`.
+    Turn,
 }
 
 fn at_frame(method: Method, now: bool) -> Asked
@@ -62,6 +64,19 @@ fn at_patch(method: Method) -> Asked
     }
 }
 
+fn at_turn(method: Method) -> Asked
+    ensures { result ≡ at_turn method }
+{
+    match method {
+        Method::Post => Asked::Turn,
+        Method::Get => Asked::Refused(Refusal::MethodNotAllowed(Allow::Post)),
+        Method::Put => Asked::Refused(Refusal::MethodNotAllowed(Allow::Post)),
+        Method::Delete => Asked::Refused(Refusal::MethodNotAllowed(Allow::Post)),
+        Method::HeadOnly => Asked::Refused(Refusal::MethodNotAllowed(Allow::Post)),
+        Method::OtherMethod => Asked::Refused(Refusal::MethodNotAllowed(Allow::Post)),
+    }
+}
+
 fn at_version(method: Method) -> Asked
     ensures { result ≡ at_version method }
 {
@@ -82,6 +97,7 @@ fn at_target(head: &Head) -> Asked
         Target::FrameAt => at_frame(head.method, head.now),
         Target::PatchAt => at_patch(head.method),
         Target::VersionAt => at_version(head.method),
+        Target::TurnAt => at_turn(head.method),
         Target::NoTarget => Asked::Refused(Refusal::NoSuchPath),
     }
 }
@@ -110,6 +126,7 @@ fn with_lines(head: &Head, wanted: Asked) -> Asked
         Asked::GetNow => checked(head, Asked::GetNow),
         Asked::Commit => checked(head, Asked::Commit),
         Asked::Version => checked(head, Asked::Version),
+        Asked::Turn => checked(head, Asked::Turn),
     }
 }
 

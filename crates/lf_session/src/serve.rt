@@ -3,6 +3,7 @@ ghost use Rattle.std.specs.Prelude.{◌≡◌, ◌<◌, ◌≤◌, ℕ, length, 
 ghost use Rattle.lf_http.specs.Reading.{to_come, count_after_head};
 ghost use Rattle.lf_http.specs.Reply.{is_named};
 ghost use Rattle.lf_http.specs.declared.head.Head.{Head};
+ghost use Rattle.lf_session.specs.Boards.{boards_of};
 ghost use Rattle.lf_session.specs.Exchanges.{told};
 ghost use Rattle.lf_session.specs.Replies.{refusal};
 ghost use Rattle.lf_session.specs.Session.{refused, no_room, reads_failed, writes_failed};
@@ -15,7 +16,7 @@ use crate::reply::{Reply, out_of_memory, refusal};
 use crate::request::asked_by;
 use crate::send::send;
 use lf_base::Memory;
-use lf_desk::Desk;
+use lf_desk::Rota;
 use lf_http::{BodyErr, Buffers, Head, HeadErr, Method, read_body, read_head};
 use lf_io::{Failed, Sink, Source};
 use std::alloc::Global;
@@ -89,7 +90,7 @@ fn starve<K: Sink>(output: &mut K, buffers: &mut Buffers, head: &Head) -> Ended
 }
 
 // Answers a request that was read whole.
-fn reply<D: Desk, K: Sink>(
+fn reply<D: Rota, K: Sink>(
     alloc: Global,
     desk: &mut D,
     output: &mut K,
@@ -98,7 +99,8 @@ fn reply<D: Desk, K: Sink>(
     need: &mut u64,
 ) -> Option<Ended>
     requires short { length buffers.old.body ≤ 67108864 }
-    ensures replies { Replies (D.alone desk.old) (D.seat desk.old) need.old need.new head.entry.now buffers.old.name buffers.old.body
+    ensures replies { Replies (D.alone desk.old) (boards_of (D.away desk.old) (D.taken desk.old)) (boards_of (D.away desk.new) (D.taken desk.new))
+        (D.seat desk.old) need.old need.new head.entry.now buffers.old.name buffers.old.body
         (D.history desk.old) (D.history desk.new) (K.held output.old) (K.held output.new) result }
     ensures same_seat { D.seat desk.new ≡ D.seat desk.old }
     ensures same_alone { D.alone desk.new ≡ D.alone desk.old }
@@ -123,7 +125,7 @@ fn reply<D: Desk, K: Sink>(
 }
 
 // Serves the next request, or ends the stream.
-fn serve_next<D: Desk, S: Source, K: Sink>(
+fn serve_next<D: Rota, S: Source, K: Sink>(
     alloc: Global,
     desk: &mut D,
     input: &mut S,
@@ -131,7 +133,8 @@ fn serve_next<D: Desk, S: Source, K: Sink>(
     buffers: &mut Buffers,
     need: &mut u64,
 ) -> Option<Ended>
-    ensures serves { Serves (D.alone desk.old) (D.seat desk.old) need.old need.new (D.history desk.old) (D.history desk.new)
+    ensures serves { Serves (D.alone desk.old) (boards_of (D.away desk.old) (D.taken desk.old)) (boards_of (D.away desk.new) (D.taken desk.new))
+        (D.seat desk.old) need.old need.new (D.history desk.old) (D.history desk.new)
         (record { left_before = S.left input.old; left_after = S.left input.new; held_before = K.held output.old; held_after = K.held output.new })
         buffers.old.pending buffers.new.pending result }
     ensures same_seat { D.seat desk.new ≡ D.seat desk.old }
@@ -154,16 +157,18 @@ fn serve_next<D: Desk, S: Source, K: Sink>(
     reply(alloc, desk, output, buffers, &head, need)
 }
 
-/// Serves one stream of requests over a desk (RFC 9112). Requests are answered one after another.
-pub fn serve_stream<D: Desk, S: Source, K: Sink>(
+/// Serves one stream of requests over a desk (RFC 9112). Requests are answered one after another, and a turn is made for each
+/// that asks for one.
+pub fn serve_stream<D: Rota, S: Source, K: Sink>(
     alloc: Global,
     desk: &mut D,
     input: &mut S,
     output: &mut K,
 ) -> Ended
     // What was read and sent is a session over the desk's history. The seat's own operations in it are those before and what
-    // the requests made, in order.
-    ensures served { IsServed (D.alone desk.old) (D.seat desk.old) (D.history desk.old) (D.history desk.new)
+    // the requests made, in order. A turn is one that the boards, and the histories before and after it, allow.
+    ensures served { IsServed (D.alone desk.old) (boards_of (D.away desk.old) (D.taken desk.old)) (boards_of (D.away desk.new) (D.taken desk.new))
+        (D.seat desk.old) (D.history desk.old) (D.history desk.new)
         (record { left_before = S.left input.old; left_after = S.left input.new; held_before = K.held output.old; held_after = K.held output.new })
         result }
     ensures same_seat { D.seat desk.new ≡ D.seat desk.old }

@@ -1,6 +1,6 @@
 use crate::bodies::{
-    bad_line_body, error_body, frame_too_long_body, history_full_body, limit_body, pending_body,
-    too_many_body, version_body,
+    bad_line_body, error_body, frame_too_long_body, history_full_body, home_body, idle_body,
+    limit_body, pending_body, published_body, superseded_body, too_many_body, version_body,
 };
 use crate::texts::{fractional_text, frame_text};
 use def_patch_texts::LineKind;
@@ -49,6 +49,28 @@ fn bodies_are_json_texts(rt: HostRuntime) -> Result<(), Fail> {
         return Ok(());
     };
     assert_eq!(rt; named.as_str(), "{\"frame\":\"a\"}");
+    Ok(())
+}
+
+#[test]
+fn a_turn_is_told(rt: HostRuntime) -> Result<(), Fail> {
+    assert_eq!(rt; idle_body().as_slice(), b"{\"turn\":\"idle\"}".as_slice());
+    assert_eq!(rt;
+        published_body(b"a", 1).as_slice(),
+        b"{\"frame\":\"a\",\"turn\":\"published\",\"version\":1}".as_slice()
+    );
+    assert_eq!(rt;
+        home_body(b"a").as_slice(),
+        b"{\"frame\":\"a\",\"turn\":\"home\"}".as_slice()
+    );
+    assert_eq!(rt;
+        superseded_body(b"a", 1, Some(2)).as_slice(),
+        b"{\"frame\":\"a\",\"now\":2,\"then\":1,\"turn\":\"superseded\"}".as_slice()
+    );
+    assert_eq!(rt;
+        superseded_body(b"a", 1, None).as_slice(),
+        b"{\"frame\":\"a\",\"now\":null,\"then\":1,\"turn\":\"superseded\"}".as_slice()
+    );
     Ok(())
 }
 

@@ -1,3 +1,4 @@
+use Rattle.std.proofs.Common.{sym}
 use Rattle.lf_session.specs.Shown.{shown}
 use Rattle.lf_session.proofs.OneStep.{step-alone}
 use Rattle.lf_session.proofs.Answered.{refused-told}
@@ -9,3 +10,6 @@ returns-in-Refused-clause-step g c =
     (g.met.D.Desk.legal c.args.desk.now)
     (refused-told _ c.args.need c.args.name.now c.args.body.now c.args.asked _ c.in-Refused.why _ c.in-Refused.is
     c.refused_reply.ensures.shown)
+
+pub returns-in-Refused-clause-out : goal.returns-in-Refused-clause-out
+returns-in-Refused-clause-out g c = λ lone. sym (g.met.D.Desk.away_are_live c.args.desk.now)

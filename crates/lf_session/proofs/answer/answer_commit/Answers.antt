@@ -5,6 +5,7 @@ use Rattle.lf_session.specs.Shown.{shown}
 use Rattle.lf_session.specs.declared.request.Asked.TheVariants as asks
 use Rattle.lf_session.proofs.OneStep.{step-alone}
 use Rattle.lf_session.proofs.Answered.{commit-bad, commit-lost}
+use Rattle.lf_session.proofs.BoardProofs.{kept-still}
 use Rattle.lf_session.proofs.answer.answer_commit.Goals as goal
 
 pub returns-in-Err-Bad-clause-step : goal.returns-in-Err-Bad-clause-step
@@ -20,3 +21,9 @@ returns-in-Err-Memory-clause-step g c = λ need name.
     step-alone _ _ need name c.args.body.now asks.Commit _ (shown c.out_of_memory.result)
     (g.met.D.Desk.legal c.args.desk.now)
     (commit-lost _ need name c.args.body.now _ _ c.out_of_memory.ensures.shown)
+
+pub returns-in-Err-Bad-clause-keeps : goal.returns-in-Err-Bad-clause-keeps
+returns-in-Err-Bad-clause-keeps g c = kept-still _ _ _ (g.met.D.Desk.away_are_live c.args.desk.now)
+
+pub returns-in-Err-Memory-clause-keeps : goal.returns-in-Err-Memory-clause-keeps
+returns-in-Err-Memory-clause-keeps g c = kept-still _ _ _ (g.met.D.Desk.away_are_live c.args.desk.now)

@@ -1,12 +1,15 @@
 use Rattle.std.proofs.Common.{rules, ◌≡◌, ◌≤◌, sym, subst, ◌∙◌, ◌++◌, ℕ, length}
 use Rattle.lf_http.specs.Judge.{request_of}
+use Rattle.lf_session.specs.Boards.{boards_of}
 use Rattle.lf_session.proofs.ShortBodies.{accepted_short}
 use Rattle.lf_session.proofs.Serving.{ends_refused, ends_cut, ends_faulted, ends_starved, serves_request}
 use Rattle.lf_session.proofs.serve.serve_next.Goals as goal
 
 pub returns-in-Err-clause-serves : goal.returns-in-Err-clause-serves
 returns-in-Err-clause-serves g c =
-    ends_refused (g.D.Desk.alone c.args.desk.now) (g.D.Desk.seat c.args.desk.now) c.args.need.now (g.D.Desk.history c.args.desk.now)
+    ends_refused (g.D.Desk.alone c.args.desk.now)
+    (boards_of (g.D.Desk.away c.args.desk.now) (g.D.Desk.taken c.args.desk.now))
+    (g.D.Desk.seat c.args.desk.now) c.args.need.now (g.D.Desk.history c.args.desk.now)
     (g.S.Source.left c.args.input.now) (g.S.Source.left c.read_head.new.source)
     (g.K.Sink.held c.args.output.now) (g.K.Sink.held c.refuse.new.output)
     c.args.buffers.now.pending c.read_head.new.buffers.pending c.in-Err.e c.refuse.result
@@ -16,7 +19,9 @@ returns-in-Err-clause-serves g c =
 pub returns-in-Err-CutShort-clause-serves : goal.returns-in-Err-CutShort-clause-serves
 returns-in-Err-CutShort-clause-serves g c =
     let head = rw c.in-Ok-Some.field-0-is at c.in-Ok-Some.ensures.head in
-    ends_cut (g.D.Desk.alone c.args.desk.now) (g.D.Desk.seat c.args.desk.now) c.args.need.now (g.D.Desk.history c.args.desk.now)
+    ends_cut (g.D.Desk.alone c.args.desk.now)
+    (boards_of (g.D.Desk.away c.args.desk.now) (g.D.Desk.taken c.args.desk.now))
+    (g.D.Desk.seat c.args.desk.now) c.args.need.now (g.D.Desk.history c.args.desk.now)
     (g.S.Source.left c.args.input.now) (g.S.Source.left c.read_head.new.source) (g.S.Source.left c.read_body.new.source)
     (g.K.Sink.held c.args.output.now)
     c.args.buffers.now.pending c.read_head.new.buffers.pending c.read_body.new.buffers.body head.0 c.in-Ok-Some.head
@@ -26,7 +31,9 @@ returns-in-Err-CutShort-clause-serves g c =
 pub returns-in-Err-ReadFault-clause-serves : goal.returns-in-Err-ReadFault-clause-serves
 returns-in-Err-ReadFault-clause-serves g c =
     let head = rw c.in-Ok-Some.field-0-is at c.in-Ok-Some.ensures.head in
-    ends_faulted (g.D.Desk.alone c.args.desk.now) (g.D.Desk.seat c.args.desk.now) c.args.need.now (g.D.Desk.history c.args.desk.now)
+    ends_faulted (g.D.Desk.alone c.args.desk.now)
+    (boards_of (g.D.Desk.away c.args.desk.now) (g.D.Desk.taken c.args.desk.now))
+    (g.D.Desk.seat c.args.desk.now) c.args.need.now (g.D.Desk.history c.args.desk.now)
     (g.S.Source.left c.args.input.now) (g.S.Source.left c.read_head.new.source) (g.S.Source.left c.read_body.new.source)
     (g.K.Sink.held c.args.output.now)
     c.args.buffers.now.pending c.read_head.new.buffers.pending c.read_body.new.buffers.body head.0 c.in-Ok-Some.head
@@ -36,7 +43,9 @@ returns-in-Err-ReadFault-clause-serves g c =
 pub returns-in-Err-Memory-clause-serves : goal.returns-in-Err-Memory-clause-serves
 returns-in-Err-Memory-clause-serves g c =
     let head = rw c.in-Ok-Some.field-0-is at c.in-Ok-Some.ensures.head in
-    ends_starved (g.D.Desk.alone c.args.desk.now) (g.D.Desk.seat c.args.desk.now) c.args.need.now (g.D.Desk.history c.args.desk.now)
+    ends_starved (g.D.Desk.alone c.args.desk.now)
+    (boards_of (g.D.Desk.away c.args.desk.now) (g.D.Desk.taken c.args.desk.now))
+    (g.D.Desk.seat c.args.desk.now) c.args.need.now (g.D.Desk.history c.args.desk.now)
     (g.S.Source.left c.args.input.now) (g.S.Source.left c.read_head.new.source) (g.S.Source.left c.read_body.new.source)
     (g.K.Sink.held c.args.output.now) (g.K.Sink.held c.starve.new.output)
     c.args.buffers.now.pending c.read_head.new.buffers.pending
@@ -47,7 +56,10 @@ returns-in-Err-Memory-clause-serves g c =
 pub returns-clause-serves : goal.returns-clause-serves
 returns-clause-serves g c =
     let head = rw c.in-Ok-Some.field-0-is at c.in-Ok-Some.ensures.head in
-    serves_request (g.D.Desk.alone c.args.desk.now) (g.D.Desk.seat c.args.desk.now) c.args.need.now c.reply.new.need
+    serves_request (g.D.Desk.alone c.args.desk.now)
+    (boards_of (g.D.Desk.away c.args.desk.now) (g.D.Desk.taken c.args.desk.now))
+    (boards_of (g.D.Desk.away c.reply.new.desk) (g.D.Desk.taken c.reply.new.desk))
+    (g.D.Desk.seat c.args.desk.now) c.args.need.now c.reply.new.need
     (g.D.Desk.history c.args.desk.now) (g.D.Desk.history c.reply.new.desk)
     (g.S.Source.left c.args.input.now) (g.S.Source.left c.read_head.new.source) (g.S.Source.left c.read_body.new.source)
     (g.K.Sink.held c.args.output.now) (g.K.Sink.held c.reply.new.output)

@@ -7,6 +7,7 @@ use Rattle.lf_io.specs.Files.{Files, is_there}
 use Rattle.lf_session.specs.declared.ended.Ended.{Ended}
 use Rattle.lf_session.specs.declared.ended.Ended.TheVariants as ended
 use Rattle.lf_session.specs.Whole.{Message, MayEnd}
+use Rattle.lf_session.specs.Boards.{no_boards}
 use Rattle.lf_session.proofs.ToldProofs.{whole_streams_are_served}
 use Rattle.lf_app.specs.Words.{Command, command_of}
 use Rattle.lf_app.specs.Holding.{session_seat}
@@ -102,6 +103,6 @@ pub sessions_end_well : SessionsEndWell
 sessions_end_well run messages is serves whole left reads writes =
     let run_of = subst (λ (b : Bool). RunsAs b run) serves is in
     let served = run_of.1.session.served in
-    let all = whole_streams_are_served true session_seat served.bytes served.written run.left_after [] run_of.1.session.after run_of.0
+    let all = whole_streams_are_served true no_boards session_seat served.bytes served.written run.left_after [] run_of.1.session.after run_of.0
     served.xs served.last messages whole (sym left ∙ served.reads) served.session in
     ends_well run _ all.behind run_of.0 run_of.1 all.ends reads writes

@@ -3,20 +3,24 @@ use Rattle.std.specs.Prelude.{◌≡◌, List, [], ℕ, Bool, true, false, Optio
 use Rattle.def_histories.specs.declared.operation.Operation.{Operation}
 use Rattle.lf_session.specs.declared.ended.Ended.{Ended}
 use Rattle.lf_session.specs.declared.ended.Ended.TheVariants as ended
+use Rattle.lf_session.specs.Boards.{Boards, no_boards}
 use Rattle.lf_session.specs.Session.{reads_failed, writes_failed}
 use Rattle.lf_session.specs.Served.{Told, IsServed}
 use Rattle.lf_session.specs.Headline.{IsHeadline, answered}
+use Rattle.lf_session.specs.LoneTurns.{AreLoneTurns}
 use Rattle.lf_app.specs.Words.{Command, frame, check, session, command_of}
 use Rattle.lf_app.specs.Holding.{session_seat}
 use Rattle.lf_app.specs.Answers.{Answer}
 use Rattle.lf_app.specs.Runs.{Run, Says}
 
 -- What was read and sent is a session, and its caller can trust the documents, each of one version that was committed and no
--- older than any that it had seen.
+-- older than any that it had seen. Its turns publish the frame that is next, and are answered that none waits where none does.
 pub record RunsSession (told : Told) (end : Ended) : Type 0 where
   pub after : List Operation
-  pub served : IsServed true session_seat [] after told end
+  pub boards : Boards
+  pub served : IsServed true no_boards boards session_seat [] after told end
   pub headline : IsHeadline session_seat [] after (answered served.xs served.last)
+  pub turns : AreLoneTurns [] (answered served.xs served.last)
 
 -- the status for each end of the stream
 abbrev pub status_of : Ended → ℕ

@@ -58,9 +58,9 @@ fn read_data_file<'a, F: Shelf>(
 
 // Commits a patch, or says which limit of histories it would pass.
 fn commit_patch<'a>(alloc: Global, state: &mut State, patch: Patch) -> Result<(), Said<'a>>
-    ensures accepted { OnOk result ((version : ℕ) × (commit_answer state.old patch ≡ Ok version)
-        × (state.new ≡ state.old ++ Commit session_seat patch ∷ [])) }
-    ensures refused { IfErr result (λ said. RefusesPatch state.old patch (answer_of said)) }
+    ensures accepted { OnOk result ((version : ℕ) × (commit_answer state.old.history patch ≡ Ok version)
+        × (state.new.history ≡ state.old.history ++ Commit session_seat patch ∷ [])) }
+    ensures refused { IfErr result (λ said. RefusesPatch state.old.history patch (answer_of said)) }
 {
     match state.commit(alloc, SEAT, patch) {
         Ok(_) => Ok(()),
@@ -81,8 +81,8 @@ fn commit_file<'a, F: Shelf>(
     file: &'a str,
     state: &mut State,
 ) -> Result<(), Said<'a>>
-    ensures committed { OnOk result (IsCommitted (F.files shelf.old) file.now state.old state.new) }
-    ensures refused { IfErr result (λ said. Refuses (F.files shelf.old) file.now state.old (answer_of said)) }
+    ensures committed { OnOk result (IsCommitted (F.files shelf.old) file.now state.old.history state.new.history) }
+    ensures refused { IfErr result (λ said. Refuses (F.files shelf.old) file.now state.old.history (answer_of said)) }
     ensures files { F.files shelf.new ≡ F.files shelf.old }
     ensures faults { F.faults shelf.new ≡ faults_by (F.faults shelf.old) result }
     ensures refusals { F.refusals shelf.new ≡ refusals_by (F.files shelf.old) (F.refusals shelf.old) result }
@@ -100,8 +100,8 @@ pub fn commit_files<'a, F: Shelf>(
     files: &'a [String],
     state: &mut State,
 ) -> Result<(), Said<'a>>
-    ensures committed { OnOk result (AreCommitted (F.files shelf.old) (map string_bytes files.now) state.old state.new) }
-    ensures refused { IfErr result (λ said. RefusesOne (F.files shelf.old) (map string_bytes files.now) state.old (answer_of said)) }
+    ensures committed { OnOk result (AreCommitted (F.files shelf.old) (map string_bytes files.now) state.old.history state.new.history) }
+    ensures refused { IfErr result (λ said. RefusesOne (F.files shelf.old) (map string_bytes files.now) state.old.history (answer_of said)) }
     ensures files { F.files shelf.new ≡ F.files shelf.old }
     ensures faults { F.faults shelf.new ≡ faults_by (F.faults shelf.old) result }
     ensures refusals { F.refusals shelf.new ≡ refusals_by (F.files shelf.old) (F.refusals shelf.old) result }

@@ -19,7 +19,7 @@ use std::alloc::Global;
 
 // The document of a frame over the newest version, or what stands in its place.
 fn document_said<'a>(alloc: Global, file: &'a str, frame: &Frame, state: &State) -> Said<'a>
-    ensures { IsOr (answer_by file.now (scratch_frame frame.now (newest_dataset state.now))) (answer_of result) }
+    ensures { IsOr (answer_by file.now (scratch_frame frame.now (newest_dataset state.now.history))) (answer_of result) }
 {
     match state.document(alloc, frame) {
         Ok(Doc::Bytes(text)) => Said::Document(text),
@@ -41,7 +41,7 @@ fn frame_data<'a, F: Shelf>(
     frame: &Frame,
     state: &mut State,
 ) -> Said<'a>
-    ensures frames { FramesOver (F.files shelf.old) file.now (map string_bytes files.now) frame.now state.old (answer_of result) }
+    ensures frames { FramesOver (F.files shelf.old) file.now (map string_bytes files.now) frame.now state.old.history (answer_of result) }
     ensures files { F.files shelf.new ≡ F.files shelf.old }
     ensures faults { F.faults shelf.new ≡ faults_after (F.faults shelf.old) (answer_of result) }
     ensures refusals { F.refusals shelf.new ≡ refusals_after (F.files shelf.old) (F.refusals shelf.old) (answer_of result) }

@@ -45,6 +45,23 @@ const GET_NOW: &str = "GET /frames/a HTTP/1.1\r\nHost: x\r\nLd-Refresh: now\r\n\
 const DOCUMENT: &str =
     "HTTP/1.1 200 OK\r\nContent-Type: application/ld+json\r\nLd-Version: 1\r\nContent-Length: 37\r\n\r\n{\"@id\":\"http://e/a\",\"http://e/p\":\"x\"}";
 
+const TURN: &str = "POST /turn HTTP/1.1\r\nHost: x\r\n\r\n";
+
+const PUBLISHED: &str =
+    "HTTP/1.1 200 OK\r\nContent-Type: application/json\r\nContent-Length: 44\r\n\r\n{\"frame\":\"a\",\"turn\":\"published\",\"version\":1}";
+
+const IDLE: &str =
+    "HTTP/1.1 200 OK\r\nContent-Type: application/json\r\nContent-Length: 15\r\n\r\n{\"turn\":\"idle\"}";
+
+const PATCHED_AGAIN: &str =
+    "HTTP/1.1 200 OK\r\nContent-Type: application/json\r\nLd-Version: 2\r\nContent-Length: 13\r\n\r\n{\"version\":2}";
+
+const CONFUSED: &str =
+    "HTTP/1.1 422 Unprocessable Content\r\nContent-Type: application/json\r\nLd-Version: 1\r\nContent-Length: 36\r\n\r\n{\"error\":\"IRI confused with prefix\"}";
+
+const TAGGED: &str =
+    "HTTP/1.1 200 OK\r\nContent-Type: application/ld+json\r\nLd-Version: 2\r\nContent-Length: 68\r\n\r\n{\"@context\":{\"tag\":\"http://t/\"},\"@id\":\"http://e/a\",\"http://e/n\":\"A\"}";
+
 fn calls(alloc: Global, failing: u64) -> Result<Calls, Memory> {
     let mut numbers = Vec::new(alloc);
     numbers.push(failing)?;
@@ -106,8 +123,13 @@ fn is_refused(alloc: Global, input: &str, wanted: &str) -> Result<bool, Memory> 
 #[test]
 fn a_first_session_comes_in_any_pieces(rt: HostRuntime) -> Result<(), Fail> {
     let alloc = rt.alloc();
-    let input = joined(alloc, &[PATCH, PUT, GET, GET_NOW])?;
-    let wanted = joined(alloc, &[PATCHED, CREATED, PENDING, DOCUMENT])?;
+    let input = joined(alloc, &[PATCH, PUT, GET, GET_NOW, TURN, GET, TURN])?;
+    let wanted = joined(
+        alloc,
+        &[
+            PATCHED, CREATED, PENDING, DOCUMENT, PUBLISHED, DOCUMENT, IDLE,
+        ],
+    )?;
     for piece in [1usize, 7, 4096] {
         let streams = Streams { piece, ..WELL };
         let (status, sent) = session(alloc, input.as_str(), &streams)?;
@@ -176,8 +198,15 @@ fn requests_are_refused_by_their_form(rt: HostRuntime) -> Result<(), Fail> {
     assert!(rt;
         is_refused(
             alloc,
-            "PATCH /turn HTTP/1.1\r\nHost: x\r\n\r\n",
+            "PATCH /turns HTTP/1.1\r\nHost: x\r\n\r\n",
             "404 Not Found\r\nContent-Type: application/json\r\nContent-Length: 24\r\n\r\n{\"error\":\"no such path\"}"
+        )?
+    );
+    assert!(rt;
+        is_refused(
+            alloc,
+            "GET /turn HTTP/1.1\r\nHost: x\r\n\r\n",
+            "405 Method Not Allowed\r\nContent-Type: application/json\r\nAllow: POST\r\nContent-Length: 30\r\n\r\n{\"error\":\"method not allowed\"}"
         )?
     );
     assert!(rt;
@@ -475,6 +504,168 @@ fn a_bad_line_leaves_the_version(rt: HostRuntime) -> Result<(), Fail> {
     Ok(())
 }
 
+// What a turn of the frame `a` is answered that published this version.
+fn turned(alloc: Global, version: char) -> Result<String, Memory> {
+    let mut text = String::from_str(
+        alloc,
+        "HTTP/1.1 200 OK\r\nContent-Type: application/json\r\nContent-Length: 44\r\n\r\n{\"frame\":\"a\",\"turn\":\"published\",\"version\":",
+    )?;
+    text.push(version)?;
+    text.push_str("}")?;
+    Ok(text)
+}
+
+// What a turn published is an error, and the version that it has is told. Where the quad is deleted, the next turn publishes a
+// text.
+#[test]
+fn a_published_error_has_its_version(rt: HostRuntime) -> Result<(), Fail> {
+    let alloc = rt.alloc();
+    let frame = "{\"@context\":{\"tag\":\"http://t/\"},\"@id\":\"http://e/a\"}";
+    let first = "<http://e/a> <http://e/n> \"A\" .\n<http://e/a> <http://e/p> <tag:x,1> .\n";
+    let put = sending(alloc, "PUT /frames/a", frame)?;
+    let one = sending(alloc, "POST /patch", first)?;
+    let two = sending(
+        alloc,
+        "POST /patch",
+        "- <http://e/a> <http://e/p> <tag:x,1> .",
+    )?;
+    let second = turned(alloc, '2')?;
+    let input = joined(
+        alloc,
+        &[
+            put.as_str(),
+            one.as_str(),
+            TURN,
+            GET,
+            two.as_str(),
+            TURN,
+            GET,
+        ],
+    )?;
+    let wanted = joined(
+        alloc,
+        &[
+            CREATED,
+            PATCHED,
+            PUBLISHED,
+            CONFUSED,
+            PATCHED_AGAIN,
+            second.as_str(),
+            TAGGED,
+        ],
+    )?;
+    let (status, sent) = session(alloc, input.as_str(), &WELL)?;
+    assert_eq!(rt; status, 0);
+    assert_eq!(rt; sent.as_str(), wanted.as_str());
+    Ok(())
+}
+
+// The replies to a `GET` at a version whose document is that of version 1.
+fn same_document(alloc: Global, version: char) -> Result<String, Memory> {
+    let mut text = String::from_str(
+        alloc,
+        "HTTP/1.1 200 OK\r\nContent-Type: application/ld+json\r\nLd-Version: ",
+    )?;
+    text.push(version)?;
+    text.push_str("\r\nContent-Length: 37\r\n\r\n{\"@id\":\"http://e/a\",\"http://e/p\":\"x\"}")?;
+    Ok(text)
+}
+
+// A patch that changes nothing makes a version, and a turn publishes its document under it.
+#[test]
+fn a_patch_that_changes_nothing_makes_a_version(rt: HostRuntime) -> Result<(), Fail> {
+    let alloc = rt.alloc();
+    let back = sending(
+        alloc,
+        "POST /patch",
+        "- <http://e/a> <http://e/p> \"x\" .\n+ <http://e/a> <http://e/p> \"x\" .\n",
+    )?;
+    let empty = sending(alloc, "POST /patch", "")?;
+    let second = turned(alloc, '2')?;
+    let third = turned(alloc, '3')?;
+    let at_second = same_document(alloc, '2')?;
+    let at_third = same_document(alloc, '3')?;
+    let input = joined(
+        alloc,
+        &[
+            PATCH,
+            PUT,
+            TURN,
+            back.as_str(),
+            TURN,
+            GET,
+            empty.as_str(),
+            TURN,
+            GET,
+            TURN,
+        ],
+    )?;
+    let wanted = joined(
+        alloc,
+        &[
+            PATCHED,
+            CREATED,
+            PUBLISHED,
+            PATCHED_AGAIN,
+            second.as_str(),
+            at_second.as_str(),
+            "HTTP/1.1 200 OK\r\nContent-Type: application/json\r\nLd-Version: 3\r\nContent-Length: 13\r\n\r\n{\"version\":3}",
+            third.as_str(),
+            at_third.as_str(),
+            IDLE,
+        ],
+    )?;
+    let (status, sent) = session(alloc, input.as_str(), &WELL)?;
+    assert_eq!(rt; status, 0);
+    assert_eq!(rt; sent.as_str(), wanted.as_str());
+    Ok(())
+}
+
+// The frame of the oldest document comes first, and among equals that of the least name.
+#[test]
+fn turns_go_by_age_and_by_name(rt: HostRuntime) -> Result<(), Fail> {
+    let alloc = rt.alloc();
+    let put = sending(alloc, "PUT /frames/b", "{}")?;
+    let created =
+        "HTTP/1.1 201 Created\r\nContent-Type: application/json\r\nContent-Length: 13\r\n\r\n{\"frame\":\"b\"}";
+    let published =
+        "HTTP/1.1 200 OK\r\nContent-Type: application/json\r\nContent-Length: 44\r\n\r\n{\"frame\":\"b\",\"turn\":\"published\",\"version\":1}";
+    let other =
+        "HTTP/1.1 200 OK\r\nContent-Type: application/json\r\nContent-Length: 44\r\n\r\n{\"frame\":\"b\",\"turn\":\"published\",\"version\":2}";
+    let again = sending(alloc, "POST /patch", "<http://e/b> <http://e/p> \"y\" .")?;
+    let second = turned(alloc, '2')?;
+    let input = joined(
+        alloc,
+        &[
+            PATCH,
+            put.as_str(),
+            TURN,
+            PUT,
+            again.as_str(),
+            TURN,
+            TURN,
+            TURN,
+        ],
+    )?;
+    let wanted = joined(
+        alloc,
+        &[
+            PATCHED,
+            created,
+            published,
+            CREATED,
+            PATCHED_AGAIN,
+            second.as_str(),
+            other,
+            IDLE,
+        ],
+    )?;
+    let (status, sent) = session(alloc, input.as_str(), &WELL)?;
+    assert_eq!(rt; status, 0);
+    assert_eq!(rt; sent.as_str(), wanted.as_str());
+    Ok(())
+}
+
 // The document of the newest version is an error, and the version that it has is told. Where the quad is deleted it is a text.
 #[test]
 fn an_error_of_a_document_has_its_version(rt: HostRuntime) -> Result<(), Fail> {
@@ -492,16 +683,7 @@ fn an_error_of_a_document_has_its_version(rt: HostRuntime) -> Result<(), Fail> {
         alloc,
         &[put.as_str(), one.as_str(), GET_NOW, two.as_str(), GET_NOW],
     )?;
-    let wanted = joined(
-        alloc,
-        &[
-            CREATED,
-            PATCHED,
-            "HTTP/1.1 422 Unprocessable Content\r\nContent-Type: application/json\r\nLd-Version: 1\r\nContent-Length: 36\r\n\r\n{\"error\":\"IRI confused with prefix\"}",
-            "HTTP/1.1 200 OK\r\nContent-Type: application/json\r\nLd-Version: 2\r\nContent-Length: 13\r\n\r\n{\"version\":2}",
-            "HTTP/1.1 200 OK\r\nContent-Type: application/ld+json\r\nLd-Version: 2\r\nContent-Length: 68\r\n\r\n{\"@context\":{\"tag\":\"http://t/\"},\"@id\":\"http://e/a\",\"http://e/n\":\"A\"}",
-        ],
-    )?;
+    let wanted = joined(alloc, &[CREATED, PATCHED, CONFUSED, PATCHED_AGAIN, TAGGED])?;
     let (status, sent) = session(alloc, input.as_str(), &WELL)?;
     assert_eq!(rt; status, 0);
     assert_eq!(rt; sent.as_str(), wanted.as_str());

@@ -15,10 +15,10 @@ loop-file-preserved g c =
     let names = map string_bytes words in
     let rest = map string_bytes (drop (i + 1) words) in
     let front : map string_bytes (drop i words) ≡ string_bytes file ∷ rest = words_from words i file c.loop-file-test.true c.file-item.is in
-    let leads = subst (λ (ns : List (List ℕ)). Leads files names ns c.args.state.now c.loop-file.state) front c.loop-file.invariant.0 in
-    let committed : IsCommitted (g.F.Shelf.files c.loop-file.shelf) (string_bytes file) c.loop-file.state c.commit_file.new.state = search rules in
-    let is = subst (λ (f : Option Files). IsCommitted f (string_bytes file) c.loop-file.state c.commit_file.new.state) c.loop-file.invariant.1 committed in (
-      leads_next files names (string_bytes file) rest c.args.state.now c.loop-file.state c.commit_file.new.state leads is,
+    let leads = subst (λ (ns : List (List ℕ)). Leads files names ns c.args.state.now.history c.loop-file.state.history) front c.loop-file.invariant.0 in
+    let committed : IsCommitted (g.F.Shelf.files c.loop-file.shelf) (string_bytes file) c.loop-file.state.history c.commit_file.new.state.history = search rules in
+    let is = subst (λ (f : Option Files). IsCommitted f (string_bytes file) c.loop-file.state.history c.commit_file.new.state.history) c.loop-file.invariant.1 committed in (
+      leads_next files names (string_bytes file) rest c.args.state.now.history c.loop-file.state.history c.commit_file.new.state.history leads is,
       c.in-Ok.ensures.files ∙ c.loop-file.invariant.1,
       c.in-Ok.ensures.faults ∙ c.loop-file.invariant.2,
       c.in-Ok.ensures.refusals ∙ c.loop-file.invariant.3,
@@ -34,7 +34,7 @@ returns-in-Err-clause-refused g c =
     let rest = map string_bytes (drop (i + 1) words) in
     let answer = answer_of c.in-Err.said in
     let front : map string_bytes (drop i words) ≡ string_bytes file ∷ rest = words_from words i file c.loop-file-test.true c.file-item.is in
-    let leads = subst (λ (ns : List (List ℕ)). Leads files names ns c.args.state.now c.loop-file.state) front c.loop-file.invariant.0 in
-    let refused : Refuses (g.F.Shelf.files c.loop-file.shelf) (string_bytes file) c.loop-file.state answer = search rules in
-    let is = subst (λ (f : Option Files). Refuses f (string_bytes file) c.loop-file.state answer) c.loop-file.invariant.1 refused in
-    leads_refused files names (string_bytes file) rest c.args.state.now c.loop-file.state answer leads is
+    let leads = subst (λ (ns : List (List ℕ)). Leads files names ns c.args.state.now.history c.loop-file.state.history) front c.loop-file.invariant.0 in
+    let refused : Refuses (g.F.Shelf.files c.loop-file.shelf) (string_bytes file) c.loop-file.state.history answer = search rules in
+    let is = subst (λ (f : Option Files). Refuses f (string_bytes file) c.loop-file.state.history answer) c.loop-file.invariant.1 refused in
+    leads_refused files names (string_bytes file) rest c.args.state.now.history c.loop-file.state.history answer leads is

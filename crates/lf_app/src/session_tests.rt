@@ -621,17 +621,20 @@ fn a_patch_that_changes_nothing_makes_a_version(rt: HostRuntime) -> Result<(), F
     Ok(())
 }
 
+const OTHER_CREATED: &str =
+    "HTTP/1.1 201 Created\r\nContent-Type: application/json\r\nContent-Length: 13\r\n\r\n{\"frame\":\"b\"}";
+
+const OTHER_PUBLISHED: &str =
+    "HTTP/1.1 200 OK\r\nContent-Type: application/json\r\nContent-Length: 44\r\n\r\n{\"frame\":\"b\",\"turn\":\"published\",\"version\":1}";
+
+const OTHER_PUBLISHED_AGAIN: &str =
+    "HTTP/1.1 200 OK\r\nContent-Type: application/json\r\nContent-Length: 44\r\n\r\n{\"frame\":\"b\",\"turn\":\"published\",\"version\":2}";
+
 // The frame of the oldest document comes first, and among equals that of the least name.
 #[test]
 fn turns_go_by_age_and_by_name(rt: HostRuntime) -> Result<(), Fail> {
     let alloc = rt.alloc();
     let put = sending(alloc, "PUT /frames/b", "{}")?;
-    let created =
-        "HTTP/1.1 201 Created\r\nContent-Type: application/json\r\nContent-Length: 13\r\n\r\n{\"frame\":\"b\"}";
-    let published =
-        "HTTP/1.1 200 OK\r\nContent-Type: application/json\r\nContent-Length: 44\r\n\r\n{\"frame\":\"b\",\"turn\":\"published\",\"version\":1}";
-    let other =
-        "HTTP/1.1 200 OK\r\nContent-Type: application/json\r\nContent-Length: 44\r\n\r\n{\"frame\":\"b\",\"turn\":\"published\",\"version\":2}";
     let again = sending(alloc, "POST /patch", "<http://e/b> <http://e/p> \"y\" .")?;
     let second = turned(alloc, '2')?;
     let input = joined(
@@ -651,12 +654,12 @@ fn turns_go_by_age_and_by_name(rt: HostRuntime) -> Result<(), Fail> {
         alloc,
         &[
             PATCHED,
-            created,
-            published,
+            OTHER_CREATED,
+            OTHER_PUBLISHED,
             CREATED,
             PATCHED_AGAIN,
             second.as_str(),
-            other,
+            OTHER_PUBLISHED_AGAIN,
             IDLE,
         ],
     )?;

@@ -19,7 +19,8 @@ use Rattle.def_contexts.specs.Frames.{frame_of}
 
 -- a proof that unfolds this computes contexts
 unfoldable pub contexts_open : Unit {0}
-unfolding is_keyword has_keyword_form is_absolute expand ordinary_term define define_terms map_table table_of
+unfolding is_keyword has_keyword_form is_absolute expand ordinary_term define define_terms map_table
+    table_of
 contexts_open = tt
 
 -- a proof that unfolds this computes frames

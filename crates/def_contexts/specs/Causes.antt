@@ -78,14 +78,16 @@ is_misplaced_prefix name None = false
 is_misplaced_prefix name (Some (truth b)) = b || has_colon_or_slash name
 is_misplaced_prefix name (Some _) = has_colon_or_slash name
 
--- an id that may give no IRI: no text, the term itself, or another text than a keyword, unless the term must expand to it
+-- an id that may give no IRI: no text, the term itself, or another text than a keyword, unless the
+-- term must expand to it
 abbrev pub is_open_id : List ℕ → Option JsonValue → Bool
 is_open_id name None = true
 is_open_id name (Some (text id)) =
     text_eq id name || (if is_keyword id then must_expand name else not (has_keyword_form id))
 is_open_id name (Some _) = true
 
--- what the map of a term must hold for a bad IRI mapping: a reverse property without an id, or an id that may give no IRI
+-- what the map of a term must hold for a bad IRI mapping: a reverse property without an id, or an
+-- id that may give no IRI
 abbrev pub mapping_cause : List ℕ → JsonMembers → Bool
 mapping_cause name members =
     if has_key (codes "@reverse") members then not (has_key (codes "@id") members)
@@ -96,7 +98,8 @@ abbrev pub definition_cause : LdError → List ℕ → JsonMembers → Bool
 definition_cause ld.InvalidTypeMapping name members = is_bad_type (value_of (codes "@type") members)
 definition_cause ld.InvalidReverseProperty name members =
     has_key (codes "@reverse") members
-    && (has_key (codes "@id") members || is_bad_reverse_container (value_of (codes "@container") members))
+    && (has_key (codes "@id") members
+    || is_bad_reverse_container (value_of (codes "@container") members))
 definition_cause ld.InvalidIriMapping name members = mapping_cause name members
 definition_cause ld.InvalidKeywordAlias name members =
     is_forward members && is_text (value_of (codes "@id") members)
@@ -104,7 +107,8 @@ definition_cause ld.InvalidContainerMapping name members =
     is_forward members && is_bad_container (value_of (codes "@container") members)
 definition_cause ld.InvalidLanguageMapping name members =
     is_forward members
-    && (not (has_key (codes "@type") members) && is_bad_language (value_of (codes "@language") members))
+    && (not (has_key (codes "@type") members)
+    && is_bad_language (value_of (codes "@language") members))
 definition_cause ld.InvalidPrefixValue name members =
     is_forward members
     && (not (has_colon_or_slash name) && is_bad_prefix (value_of (codes "@prefix") members))
@@ -117,9 +121,11 @@ abbrev pub is_definition_error : LdError → Bool
 is_definition_error ld.InvalidTermDefinition = true
 is_definition_error _ = false
 
--- what the value of a term of this name must be for an error; a text is a map with that `@id`, and with `@id` null nothing is read
+-- what the value of a term of this name must be for an error; a text is a map with that `@id`, and
+-- with `@id` null nothing is read
 abbrev pub value_cause : LdError → List ℕ → JsonValue → Bool
-value_cause e name (object members) = not (is_null (value_of (codes "@id") members)) && definition_cause e name members
+value_cause e name (object members) =
+    not (is_null (value_of (codes "@id") members)) && definition_cause e name members
 value_cause e name (text id) = definition_cause e name (member (codes "@id") (text id) no_members)
 value_cause e name null = false
 value_cause e name (truth b) = is_definition_error e
@@ -133,7 +139,8 @@ entry_cause ld.CyclicIriMapping entry = true
 entry_cause ld.KeywordRedefinition entry =
     is_keyword entry.name && not (text_eq entry.name (codes "@type") && sets_type entry.value)
 entry_cause ld.InvalidTermDefinition entry =
-    is_empty entry.name || (is_term_name entry.name && value_cause ld.InvalidTermDefinition entry.name entry.value)
+    is_empty entry.name
+    || (is_term_name entry.name && value_cause ld.InvalidTermDefinition entry.name entry.value)
 entry_cause e entry = is_term_name entry.name && value_cause e entry.name entry.value
 
 -- a value other than null
@@ -175,7 +182,8 @@ abbrev mutual
 
 -- an error comes from a context only where its cause stands there
 abbrev pub ErrorsHaveCauses : Type 0
-ErrorsHaveCauses = (context : JsonValue) (e : LdError) → table_of context ≡ Err e → IsTrue (context_cause e context)
+ErrorsHaveCauses = (context : JsonValue) (e : LdError) → table_of context ≡ Err e →
+    IsTrue (context_cause e context)
 
 -- the errors that contexts give
 abbrev pub is_context_error : LdError → Bool
@@ -198,4 +206,5 @@ is_context_error _ = false
 
 -- a context is refused by one of these alone
 abbrev pub ErrorsAreNamed : Type 0
-ErrorsAreNamed = (context : JsonValue) (e : LdError) → table_of context ≡ Err e → IsTrue (is_context_error e)
+ErrorsAreNamed =
+    (context : JsonValue) (e : LdError) → table_of context ≡ Err e → IsTrue (is_context_error e)

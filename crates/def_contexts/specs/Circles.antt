@@ -1,4 +1,5 @@
--- Circles of terms that need each other (JSON-LD 1.1 Processing Algorithms and API, section 4.2.2, step 1).
+-- Circles of terms that need each other (JSON-LD 1.1 Processing Algorithms and API, section 4.2.2,
+-- step 1).
 use Rattle.std.specs.Prelude.{◌≡◌, ◌⊎◌, List, [], ◌∷◌, ◌++◌, ℕ, if◌then◌else◌, Option, Some, Err, IsTrue, codes}
 use Rattle.lf_model.specs.declared.error.LdError.TheVariants.{CyclicIriMapping}
 use Rattle.lf_model.specs.JsonData.{JsonValue, JsonItems, JsonMembers, null, truth, whole, fraction, text, array, object, no_items, item}
@@ -26,7 +27,8 @@ named_by_name name = if has_later_colon name then before_colon name ∷ [] else 
 
 abbrev pub named_by_map : JsonMembers → List (List ℕ)
 named_by_map members =
-    named_by_text (value_of (codes "@id") members) ++ named_by_text (value_of (codes "@type") members)
+    named_by_text (value_of (codes "@id") members)
+    ++ named_by_text (value_of (codes "@type") members)
     ++ named_by_text (value_of (codes "@reverse") members)
 
 abbrev pub named_by_value : JsonValue → List (List ℕ)
@@ -43,7 +45,8 @@ pub data Leads (terms : List Entry) : List ℕ → List ℕ → Type 0 where
   step :
       {from to : List ℕ} (value : JsonValue) → entry_value from terms ≡ Some value →
       IsTrue (one_of (named_by from value) to) → Leads terms from to
-  chain : {from over to : List ℕ} → Leads terms from over → Leads terms over to → Leads terms from to
+  chain :
+      {from over to : List ℕ} → Leads terms from over → Leads terms over to → Leads terms from to
 
 -- a term that leads to itself
 abbrev pub HasCircle : List Entry → Type 0
@@ -66,4 +69,5 @@ abbrev mutual
 
 -- a context is refused as cyclic only where a term leads to itself
 abbrev pub CyclesAreCircles : Type 0
-CyclesAreCircles = (context : JsonValue) → table_of context ≡ Err CyclicIriMapping → ContextHasCircle context
+CyclesAreCircles =
+    (context : JsonValue) → table_of context ≡ Err CyclicIriMapping → ContextHasCircle context

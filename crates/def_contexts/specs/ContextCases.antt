@@ -9,7 +9,8 @@ use Rattle.def_contexts.specs.CaseWords.{contexts_open, map_of, list_of, plain_t
 
 -- {"tag":"http://t/"}
 abbrev pub tag_terms : TermTable
-tag_terms = table_with (record (plain_term (codes "tag") (codes "http://t/")) { prefix = true } ∷ [])
+tag_terms =
+    table_with (record (plain_term (codes "tag") (codes "http://t/")) { prefix = true } ∷ [])
 
 pub tag_table : table_of (map_of ((codes "tag", text (codes "http://t/")) ∷ [])) ≡ Ok tag_terms
 unfolding contexts_open
@@ -20,15 +21,24 @@ abbrev pub library : JsonValue
 library =
     map_of ((codes "@version", fraction)
     ∷ (codes "@vocab", text (codes "http://l/"))
-    ∷ (codes "contains", map_of ((codes "@container", text (codes "@set")) ∷ (codes "@type", text (codes "@id")) ∷ []))
-    ∷ (codes "creator", map_of ((codes "@id", text (codes "dc:creator")) ∷ (codes "@type", text (codes "@id")) ∷ []))
+    ∷ (
+      codes "contains",
+      map_of
+          ((codes "@container", text (codes "@set")) ∷ (codes "@type", text (codes "@id")) ∷ []),
+    )
+    ∷ (
+      codes "creator",
+      map_of
+          ((codes "@id", text (codes "dc:creator")) ∷ (codes "@type", text (codes "@id")) ∷ []),
+    )
     ∷ (codes "dc", text (codes "http://purl.org/dc/terms/"))
     ∷ [])
 
 abbrev pub library_terms : TermTable
 library_terms =
     record (table_with (record (plain_term (codes "contains") (codes "http://l/contains")) { coercion = Some (codes "@id"); container = Set }
-    ∷ record (plain_term (codes "creator") (codes "http://purl.org/dc/terms/creator")) { coercion = Some (codes "@id") }
+    ∷ record (plain_term (codes "creator") (codes "http://purl.org/dc/terms/creator"))
+    { coercion = Some (codes "@id") }
     ∷ record (plain_term (codes "dc") (codes "http://purl.org/dc/terms/")) { prefix = true }
     ∷ [])) { vocab = Some (codes "http://l/") }
 
@@ -38,9 +48,15 @@ library_table = refl
 
 -- {"label":{"@container":"@language","@id":"http://e/label"}}
 abbrev pub label_terms : TermTable
-label_terms = table_with (record (plain_term (codes "label") (codes "http://e/label")) { container = Language } ∷ [])
+label_terms = table_with
+    (record (plain_term (codes "label") (codes "http://e/label")) { container = Language } ∷ [])
 
-pub label_table : table_of (map_of ((codes "label", map_of ((codes "@container", text (codes "@language")) ∷ (codes "@id", text (codes "http://e/label")) ∷ [])) ∷ [])) ≡ Ok label_terms
+pub label_table :
+    table_of (map_of ((
+      codes "label",
+      map_of ((codes "@container", text (codes "@language"))
+          ∷ (codes "@id", text (codes "http://e/label")) ∷ []),
+    ) ∷ [])) ≡ Ok label_terms
 unfolding contexts_open
 label_table = refl
 
@@ -67,16 +83,22 @@ unfolding contexts_open
 reset_table = refl
 
 -- {"@foo":"x","@type":{"@container":"@set"}}: a key of a keyword's form is ignored
-pub type_set_table : table_of (map_of ((codes "@foo", text (codes "x")) ∷ (codes "@type", map_of ((codes "@container", text (codes "@set")) ∷ [])) ∷ [])) ≡ Ok (record empty_table { type_set = true })
+pub type_set_table :
+    table_of (map_of ((codes "@foo", text (codes "x"))
+    ∷ (codes "@type", map_of ((codes "@container", text (codes "@set")) ∷ [])) ∷ []))
+    ≡ Ok (record empty_table { type_set = true })
 unfolding contexts_open
 type_set_table = refl
 
--- a term, a compact IRI, a text under the vocabulary mapping, an absolute IRI, a blank node identifier and an authority
-pub creator_expanded : expand library_terms (codes "creator") true ≡ Some (codes "http://purl.org/dc/terms/creator")
+-- a term, a compact IRI, a text under the vocabulary mapping, an absolute IRI, a blank node
+-- identifier and an authority
+pub creator_expanded :
+    expand library_terms (codes "creator") true ≡ Some (codes "http://purl.org/dc/terms/creator")
 unfolding contexts_open
 creator_expanded = refl
 
-pub title_expanded : expand library_terms (codes "dc:title") true ≡ Some (codes "http://purl.org/dc/terms/title")
+pub title_expanded :
+    expand library_terms (codes "dc:title") true ≡ Some (codes "http://purl.org/dc/terms/title")
 unfolding contexts_open
 title_expanded = refl
 

@@ -11,10 +11,13 @@ one key value = map_of ((key, value) ∷ [])
 
 -- the context of one term, whose definition has the IRI `http://e/a` and one more key
 abbrev pub term_with : List ℕ → JsonValue → JsonValue
-term_with key value = one (codes "a") (map_of ((codes "@id", text (codes "http://e/a")) ∷ (key, value) ∷ []))
+term_with key value =
+    one (codes "a") (map_of ((codes "@id", text (codes "http://e/a")) ∷ (key, value) ∷ []))
 
 -- {"a":{"@id":"b:x"},"b":{"@id":"a:y"}}
-pub cycle_refused : table_of (map_of ((codes "a", one (codes "@id") (text (codes "b:x"))) ∷ (codes "b", one (codes "@id") (text (codes "a:y"))) ∷ [])) ≡ Err ld.CyclicIriMapping
+pub cycle_refused :
+    table_of (map_of ((codes "a", one (codes "@id") (text (codes "b:x")))
+    ∷ (codes "b", one (codes "@id") (text (codes "a:y"))) ∷ [])) ≡ Err ld.CyclicIriMapping
 unfolding contexts_open
 cycle_refused = refl
 
@@ -31,12 +34,16 @@ pub truth_refused : table_of (list_of (truth true ∷ [])) ≡ Err ld.InvalidLoc
 unfolding contexts_open
 truth_refused = refl
 
-pub base_refused : table_of (one (codes "@base") (text (codes "http://e/"))) ≡ Err ld.InvalidLocalContext
+pub base_refused :
+    table_of (one (codes "@base") (text (codes "http://e/"))) ≡ Err ld.InvalidLocalContext
 unfolding contexts_open
 base_refused = refl
 
 -- a version that is no fraction is found before a key that is refused by name
-pub version_refused : table_of (map_of ((codes "@import", text (codes "http://e/")) ∷ (codes "@version", whole (pos 1)) ∷ [])) ≡ Err ld.InvalidVersionValue
+pub version_refused :
+    table_of (map_of
+    ((codes "@import", text (codes "http://e/")) ∷ (codes "@version", whole (pos 1)) ∷ []))
+    ≡ Err ld.InvalidVersionValue
 unfolding contexts_open
 version_refused = refl
 
@@ -44,7 +51,8 @@ pub vocab_refused : table_of (one (codes "@vocab") (text (codes "x"))) ≡ Err l
 unfolding contexts_open
 vocab_refused = refl
 
-pub language_refused : table_of (one (codes "@language") (truth true)) ≡ Err ld.InvalidDefaultLanguage
+pub language_refused :
+    table_of (one (codes "@language") (truth true)) ≡ Err ld.InvalidDefaultLanguage
 unfolding contexts_open
 language_refused = refl
 
@@ -52,19 +60,24 @@ pub empty_term_refused : table_of (one [] (text (codes "http://e/"))) ≡ Err ld
 unfolding contexts_open
 empty_term_refused = refl
 
-pub other_key_refused : table_of (term_with (codes "@index") (text (codes "x"))) ≡ Err ld.InvalidTermDefinition
+pub other_key_refused :
+    table_of (term_with (codes "@index") (text (codes "x"))) ≡ Err ld.InvalidTermDefinition
 unfolding contexts_open
 other_key_refused = refl
 
-pub keyword_refused : table_of (one (codes "@id") (text (codes "http://e/"))) ≡ Err ld.KeywordRedefinition
+pub keyword_refused :
+    table_of (one (codes "@id") (text (codes "http://e/"))) ≡ Err ld.KeywordRedefinition
 unfolding contexts_open
 keyword_refused = refl
 
-pub type_refused : table_of (term_with (codes "@type") (text (codes "x"))) ≡ Err ld.InvalidTypeMapping
+pub type_refused :
+    table_of (term_with (codes "@type") (text (codes "x"))) ≡ Err ld.InvalidTypeMapping
 unfolding contexts_open
 type_refused = refl
 
-pub reverse_beside_id_refused : table_of (term_with (codes "@reverse") (text (codes "http://e/b"))) ≡ Err ld.InvalidReverseProperty
+pub reverse_beside_id_refused :
+    table_of (term_with (codes "@reverse") (text (codes "http://e/b")))
+    ≡ Err ld.InvalidReverseProperty
 unfolding contexts_open
 reverse_beside_id_refused = refl
 
@@ -73,19 +86,24 @@ unfolding contexts_open
 relative_refused = refl
 
 -- a term with a `:` must itself expand to its IRI
-pub other_iri_refused : table_of (one (codes "urn:x") (text (codes "http://e/x"))) ≡ Err ld.InvalidIriMapping
+pub other_iri_refused :
+    table_of (one (codes "urn:x") (text (codes "http://e/x"))) ≡ Err ld.InvalidIriMapping
 unfolding contexts_open
 other_iri_refused = refl
 
-pub context_alias_refused : table_of (one (codes "a") (text (codes "@context"))) ≡ Err ld.InvalidKeywordAlias
+pub context_alias_refused :
+    table_of (one (codes "a") (text (codes "@context"))) ≡ Err ld.InvalidKeywordAlias
 unfolding contexts_open
 context_alias_refused = refl
 
-pub container_refused : table_of (term_with (codes "@container") (text (codes "@index"))) ≡ Err ld.InvalidContainerMapping
+pub container_refused :
+    table_of (term_with (codes "@container") (text (codes "@index")))
+    ≡ Err ld.InvalidContainerMapping
 unfolding contexts_open
 container_refused = refl
 
-pub term_language_refused : table_of (term_with (codes "@language") (whole (pos 1))) ≡ Err ld.InvalidLanguageMapping
+pub term_language_refused :
+    table_of (term_with (codes "@language") (whole (pos 1))) ≡ Err ld.InvalidLanguageMapping
 unfolding contexts_open
 term_language_refused = refl
 

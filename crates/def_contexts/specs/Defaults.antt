@@ -93,7 +93,8 @@ default_of table term (object members) = default_map table members
 default_of table term (array items) = Err InvalidFrame
 default_of table term fraction = Err InvalidFrame
 
-abbrev pub defaults_of_items : TermTable → Option TermDef → JsonItems → Result (List DefaultValue) LdError
+abbrev pub defaults_of_items :
+    TermTable → Option TermDef → JsonItems → Result (List DefaultValue) LdError
 defaults_of_items table term no_items = Ok []
 defaults_of_items table term (item value rest) = do
   first ← default_of table term value
@@ -101,7 +102,8 @@ defaults_of_items table term (item value rest) = do
   Ok (first ∷ others)
 
 -- `@default`: one value or an array of values
-unfoldable pub defaults_of : TermTable → Option TermDef → JsonValue → Result (List DefaultValue) LdError
+unfoldable pub defaults_of :
+    TermTable → Option TermDef → JsonValue → Result (List DefaultValue) LdError
 defaults_of table term (array items) = defaults_of_items table term items
 defaults_of table term value = do
   only ← default_of table term value

@@ -56,7 +56,8 @@ term_defined empty_name need name value draft = Err InvalidTermDefinition
 term_defined type_name need name value draft = type_term value draft
 term_defined keyword_name need name value draft = Err KeywordRedefinition
 term_defined ignored_name need name value draft = Ok (settled name draft)
-term_defined ordinary_name need name value draft = ordinary_term need name value (forgotten name draft)
+term_defined ordinary_name need name value draft =
+    ordinary_term need name value (forgotten name draft)
 
 -- a term of a context and its value
 pub record Entry : Type 0 where
@@ -67,7 +68,8 @@ abbrev pub entry_value : List ℕ → List Entry → Option JsonValue
 entry_value name [] = None
 entry_value name (e ∷ rest) = if text_eq name e.name then Some e.value else entry_value name rest
 
--- how a needed term stands: it is no term of this context or is done, it is being defined, or it waits with its value
+-- how a needed term stands: it is no term of this context or is done, it is being defined, or it
+-- waits with its value
 pub data Standing : Type 0 where
   ready : Standing
   begun : Standing
@@ -80,7 +82,8 @@ standing_of false true (Some value) = begun
 standing_of false false (Some value) = waiting value
 
 abbrev pub standing : List Entry → List (List ℕ) → Draft → List ℕ → Standing
-standing terms beings draft name = standing_of (one_of draft.done name) (one_of beings name) (entry_value name terms)
+standing terms beings draft name =
+    standing_of (one_of draft.done name) (one_of beings name) (entry_value name terms)
 
 -- what defines a term, where the terms in the list are being defined
 abbrev pub Define : Type 0
@@ -93,13 +96,16 @@ made_ready (waiting value) define beings name draft = define beings name value d
 
 -- a needed term is defined where it waits; one that is being defined is in a cycle
 abbrev pub needed : List Entry → Define → List (List ℕ) → Need
-needed terms define beings name draft = made_ready (standing terms beings draft name) define beings name draft
+needed terms define beings name draft =
+    made_ready (standing terms beings draft name) define beings name draft
 
--- A term is defined with the terms that it needs. The number bounds how many are being defined at once.
+-- A term is defined with the terms that it needs. The number bounds how many are being defined at
+-- once.
 unfoldable pub define : List Entry → ℕ → Define
 define terms zero beings name value draft = Err CyclicIriMapping
 define terms (suc room) beings name value draft =
-    term_defined (name_kind name) (needed terms (define terms room) (name ∷ beings)) name value draft
+    term_defined (name_kind name) (needed terms (define terms room) (name ∷ beings)) name value
+    draft
 
 -- each term in order, as if it were needed while none is being defined
 abbrev pub define_each : Need → List Entry → Draft → Result Draft LdError
@@ -111,4 +117,5 @@ define_each need (e ∷ rest) draft = do
 -- all terms of a context; no more terms can be being defined at once than there are
 unfoldable pub define_terms : List Entry → TermTable → Result Draft LdError
 define_terms terms table =
-    define_each (needed terms (define terms (length terms)) []) terms (record { table = table; done = [] })
+    define_each (needed terms (define terms (length terms)) []) terms
+    (record { table = table; done = [] })

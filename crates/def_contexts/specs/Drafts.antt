@@ -36,7 +36,10 @@ settled name draft = record draft { done = name ∷ draft.done }
 -- a term is done and has a definition
 abbrev pub defined : TermDef → Draft → Draft
 defined d draft =
-    record { table = record draft.table { terms = put_term d draft.table.terms }; done = d.name ∷ draft.done }
+    record {
+      table = record draft.table { terms = put_term d draft.table.terms };
+      done = d.name ∷ draft.done;
+    }
 
 -- the older definition of a term that is defined anew is gone
 abbrev pub forgotten : List ℕ → Draft → Draft
@@ -61,7 +64,8 @@ need_if false need name draft = Ok draft
 
 -- a text is needed as a term, unless it is a keyword or has the form of one
 abbrev pub need_whole : Need → List ℕ → Draft → Result Draft LdError
-need_whole need text draft = need_if (not (is_keyword text || has_keyword_form text)) need text draft
+need_whole need text draft =
+    need_if (not (is_keyword text || has_keyword_form text)) need text draft
 
 abbrev pub need_split : Need → Split → Draft → Result Draft LdError
 need_split need unsplit draft = Ok draft
@@ -71,7 +75,8 @@ need_split need (split before after) draft = need before draft
 -- what stands before the `:` of a text that is no term is needed as a term
 abbrev pub need_prefix : Need → List ℕ → Draft → Result Draft LdError
 need_prefix need text draft =
-    need_split need (if is_some (find_term text draft.table.terms) then unsplit else split_of text) draft
+    need_split need (if is_some (find_term text draft.table.terms) then unsplit else split_of text)
+    draft
 
 -- a text of the context expanded with `vocab`
 abbrev pub expanded : Need → List ℕ → Draft → Result Expanded LdError

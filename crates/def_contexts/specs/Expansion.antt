@@ -12,18 +12,21 @@ use Rattle.def_contexts.specs.Texts.{is_absolute, has_later_colon, before_colon,
 abbrev pub find_term : List ℕ → List TermDef → Option TermDef
 find_term name terms = find (λ (d : TermDef). text_eq name d.name) terms
 
--- how a text with a `:` is read: it stands as it is, as a blank node identifier or before `//`, or has a prefix and a rest
+-- how a text with a `:` is read: it stands as it is, as a blank node identifier or before `//`, or
+-- has a prefix and a rest
 pub data Split : Type 0 where
   unsplit : Split
   as_is : Split
   split : List ℕ → List ℕ → Split
 
 abbrev pub split_at : List ℕ → List ℕ → Split
-split_at before after = if text_eq before (ch.underscore ∷ []) || begins_authority after then as_is else split before after
+split_at before after = if text_eq before (ch.underscore ∷ []) || begins_authority after then as_is
+    else split before after
 
 -- a text with `:` after its first character is cut at its first `:`
 abbrev pub split_of : List ℕ → Split
-split_of text = if has_later_colon text then split_at (before_colon text) (after_colon text) else unsplit
+split_of text =
+    if has_later_colon text then split_at (before_colon text) (after_colon text) else unsplit
 
 -- whether an IRI mapping is a keyword
 abbrev pub maps_to_keyword : Option (List ℕ) → Bool
@@ -55,7 +58,8 @@ by_split table text as_is = Some text
 by_split table text (split before after) =
     option_or (by_prefix (find_term before table.terms) after) (if_absolute text)
 
--- with `vocab` the vocabulary mapping goes before a text that nothing else decides; otherwise it stays, and is relative
+-- with `vocab` the vocabulary mapping goes before a text that nothing else decides; otherwise it
+-- stays, and is relative
 abbrev pub by_vocab : Bool → Option (List ℕ) → List ℕ → List ℕ
 by_vocab true (Some mapping) text = mapping ++ text
 by_vocab true None text = text

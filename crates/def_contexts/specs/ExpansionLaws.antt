@@ -15,7 +15,8 @@ KeywordsStay =
 -- a term expands with `vocab` to its IRI, or to nothing where it has none
 abbrev pub TermsGiveTheirIri : Type 0
 TermsGiveTheirIri =
-    (table : TermTable) (text : List ℕ) (d : TermDef) → IsFalse (is_keyword text) → IsFalse (has_keyword_form text) →
+    (table : TermTable) (text : List ℕ) (d : TermDef) → IsFalse (is_keyword text) →
+    IsFalse (has_keyword_form text) →
     find_term text table.terms ≡ Some d → expand table text true ≡ d.iri
 
 -- an absolute text that is no term, and whose prefix is no term that may be one, expands to itself

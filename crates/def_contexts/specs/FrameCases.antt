@@ -48,38 +48,85 @@ library_frame =
 abbrev pub library_nested : Nested
 library_nested =
     of_props (of_types (codes "http://l/Library"))
-    (prop (codes "http://l/contains") (of_props (of_types (codes "http://l/Book")) no_props) no_props)
+    (prop (codes "http://l/contains") (of_props (of_types (codes "http://l/Book")) no_props)
+    no_props)
 
-pub library_read : frame_of library_frame ≡ Ok (record { nested = library_nested; table = library_terms; context = library; top_graph = false })
+pub library_read :
+    frame_of library_frame
+    ≡ Ok (record
+    { nested = library_nested; table = library_terms; context = library; top_graph = false })
 unfolding frames_open
 library_read = refl
 
 -- {"@context":{"label":{"@container":"@language","@id":"http://e/label"}},"@id":"http://e/a"}
 abbrev pub label_context : JsonValue
 label_context =
-    map_of ((codes "label", map_of ((codes "@container", text (codes "@language")) ∷ (codes "@id", text (codes "http://e/label")) ∷ [])) ∷ [])
+    map_of ((
+      codes "label",
+      map_of ((codes "@container", text (codes "@language"))
+          ∷ (codes "@id", text (codes "http://e/label")) ∷ []),
+    ) ∷ [])
 
-pub label_read : frame_of (map_of ((codes "@context", label_context) ∷ (codes "@id", text (codes "http://e/a")) ∷ [])) ≡ Ok (record { nested = of_props (record plain { ids = id_test.OneOf (Iri (codes "http://e/a") ∷ []) }) no_props; table = label_terms; context = label_context; top_graph = false })
+pub label_read :
+    frame_of
+    (map_of ((codes "@context", label_context) ∷ (codes "@id", text (codes "http://e/a")) ∷ []))
+    ≡ Ok (record {
+      nested = of_props
+          (record plain { ids = id_test.OneOf (Iri (codes "http://e/a") ∷ []) }) no_props;
+      table = label_terms;
+      context = label_context;
+      top_graph = false;
+    })
 unfolding frames_open
 label_read = refl
 
 -- {"@requireAll":true,"http://e/p":{},"http://e/q":[]}
-pub match_none_read : frame_of (map_of ((codes "@requireAll", truth true) ∷ (codes "http://e/p", map_of []) ∷ (codes "http://e/q", list_of []) ∷ [])) ≡ Ok (meant (of_props (record plain { require_all = true }) (prop (codes "http://e/p") (wildcard plain) (prop (codes "http://e/q") match_none no_props))))
+pub match_none_read :
+    frame_of (map_of ((codes "@requireAll", truth true) ∷ (codes "http://e/p", map_of [])
+    ∷ (codes "http://e/q", list_of []) ∷ []))
+    ≡ Ok (meant (of_props (record plain { require_all = true }) (prop (codes "http://e/p")
+    (wildcard plain) (prop (codes "http://e/q") match_none no_props))))
 unfolding frames_open
 match_none_read = refl
 
 -- {"@id":"http://e/a","http://e/p":{"@default":"d","@value":"y"}}
-pub default_read : frame_of (map_of ((codes "@id", text (codes "http://e/a")) ∷ (codes "http://e/p", map_of ((codes "@default", text (codes "d")) ∷ (codes "@value", text (codes "y")) ∷ [])) ∷ [])) ≡ Ok (meant (of_props (record plain { ids = id_test.OneOf (Iri (codes "http://e/a") ∷ []) }) (prop (codes "http://e/p") (frame_map (record plain { fallback = Some (default.Scalar (scalar.Text (codes "d")) None None ∷ []) }) no_props no_reverses no_graph (value_pattern (record { value = part.OneOf (scalar.Text (codes "y") ∷ []); datatype = part.Absent; language = part.Absent }))) no_props)))
+pub default_read :
+    frame_of (map_of ((codes "@id", text (codes "http://e/a"))
+    ∷ (
+      codes "http://e/p",
+      map_of ((codes "@default", text (codes "d")) ∷ (codes "@value", text (codes "y")) ∷ []),
+    )
+    ∷ []))
+    ≡ Ok (meant (of_props (record plain { ids = id_test.OneOf (Iri (codes "http://e/a") ∷ []) })
+    (prop (codes "http://e/p") (frame_map (record plain
+    { fallback = Some (default.Scalar (scalar.Text (codes "d")) None None ∷ []) })
+    no_props no_reverses no_graph (value_pattern (record {
+      value =
+          part.OneOf (scalar.Text (codes "y") ∷ []);
+      datatype = part.Absent;
+      language = part.Absent;
+    }))) no_props)))
 unfolding frames_open
 default_read = refl
 
 -- {"@graph":{}}: the value of the only key is the frame
-pub graph_read : frame_of (map_of ((codes "@graph", map_of []) ∷ [])) ≡ Ok (record { nested = wildcard plain; table = empty_table; context = null; top_graph = true })
+pub graph_read :
+    frame_of (map_of ((codes "@graph", map_of []) ∷ []))
+    ≡ Ok (record { nested = wildcard plain; table = empty_table; context = null; top_graph = true })
 unfolding frames_open
 graph_read = refl
 
 -- {"@graph":{},"@id":"_:b"}: beside another key it is the frame of a graph
-pub graph_beside_id_read : frame_of (map_of ((codes "@graph", map_of []) ∷ (codes "@id", text (codes "_:b")) ∷ [])) ≡ Ok (record { nested = frame_map (record plain { ids = id_test.OneOf (Blank (codes "b") ∷ []) }) no_props no_reverses (in_graph (wildcard plain)) node_frame; table = empty_table; context = null; top_graph = true })
+pub graph_beside_id_read :
+    frame_of (map_of ((codes "@graph", map_of []) ∷ (codes "@id", text (codes "_:b")) ∷ []))
+    ≡ Ok (record {
+      nested =
+          frame_map (record plain { ids = id_test.OneOf (Blank (codes "b") ∷ []) }) no_props
+          no_reverses (in_graph (wildcard plain)) node_frame;
+      table = empty_table;
+      context = null;
+      top_graph = true;
+    })
 unfolding frames_open
 graph_beside_id_read = refl
 
@@ -89,7 +136,11 @@ unfolding frames_open
 null_read = refl
 
 -- {"@reverse":{"http://e/p":[{}]}}
-pub reverse_read : frame_of (map_of ((codes "@reverse", map_of ((codes "http://e/p", list_of (map_of [] ∷ [])) ∷ [])) ∷ [])) ≡ Ok (meant (frame_map plain no_props (reverse_prop (codes "http://e/p") (wildcard plain) no_reverses) no_graph node_frame))
+pub reverse_read :
+    frame_of (map_of
+    ((codes "@reverse", map_of ((codes "http://e/p", list_of (map_of [] ∷ [])) ∷ [])) ∷ []))
+    ≡ Ok (meant (frame_map plain no_props
+    (reverse_prop (codes "http://e/p") (wildcard plain) no_reverses) no_graph node_frame))
 unfolding frames_open
 reverse_read = refl
 
@@ -103,19 +154,43 @@ some_terms =
 
 abbrev pub english : List ℕ → Nested
 english word =
-    frame_map plain no_props no_reverses no_graph (value_pattern (record { value = part.OneOf (scalar.Text word ∷ []); datatype = part.Absent; language = part.OneOf (scalar.Text (codes "en") ∷ []) }))
+    frame_map plain no_props no_reverses no_graph (value_pattern (record {
+      value = part.OneOf (scalar.Text word ∷ []);
+      datatype = part.Absent;
+      language = part.OneOf (scalar.Text (codes "en") ∷ []);
+    }))
 
 -- {"l":"x"}: a text in the default language, as the item of a list pattern
-pub list_read : top_frame some_terms (members_of ((codes "l", text (codes "x")) ∷ [])) ≡ Ok (of_props plain (prop (codes "http://e/l") (frame_map plain no_props no_reverses no_graph (list_pattern_of (english (codes "x")))) no_props))
+pub list_read :
+    top_frame some_terms (members_of ((codes "l", text (codes "x")) ∷ []))
+    ≡ Ok (of_props plain (prop (codes "http://e/l")
+    (frame_map plain no_props no_reverses no_graph (list_pattern_of (english (codes "x"))))
+    no_props))
 unfolding frames_open
 list_read = refl
 
 -- {"r":"http://e/x","v":{}}: a reference, and a reverse property of the same IRI
-pub coerced_read : top_frame some_terms (members_of ((codes "r", text (codes "http://e/x")) ∷ (codes "v", map_of []) ∷ [])) ≡ Ok (frame_map plain (prop (codes "http://e/r") (of_props (record plain { ids = id_test.OneOf (Iri (codes "http://e/x") ∷ []) }) no_props) no_props) (reverse_prop (codes "http://e/r") (wildcard plain) no_reverses) no_graph node_frame)
+pub coerced_read :
+    top_frame some_terms
+    (members_of ((codes "r", text (codes "http://e/x")) ∷ (codes "v", map_of []) ∷ []))
+    ≡ Ok (frame_map plain (prop (codes "http://e/r")
+    (of_props (record plain { ids = id_test.OneOf (Iri (codes "http://e/x") ∷ []) }) no_props)
+    no_props) (reverse_prop (codes "http://e/r") (wildcard plain) no_reverses) no_graph
+    node_frame)
 unfolding frames_open
 coerced_read = refl
 
 -- {"http://e/p":{"@set":[{"@type":"http://e/T"}]}}: the value of `@set` stands for its map
-pub set_read : frame_of (map_of ((codes "http://e/p", map_of ((codes "@set", list_of (map_of ((codes "@type", text (codes "http://e/T")) ∷ []) ∷ [])) ∷ [])) ∷ [])) ≡ Ok (meant (of_props plain (prop (codes "http://e/p") (of_props (of_types (codes "http://e/T")) no_props) no_props)))
+pub set_read :
+    frame_of (map_of ((
+      codes "http://e/p",
+      map_of ((
+        codes "@set",
+        list_of (map_of ((codes "@type", text (codes "http://e/T")) ∷ []) ∷ []),
+      ) ∷ []),
+    )
+    ∷ []))
+    ≡ Ok (meant (of_props plain
+    (prop (codes "http://e/p") (of_props (of_types (codes "http://e/T")) no_props) no_props)))
 unfolding frames_open
 set_read = refl

@@ -1,4 +1,5 @@
--- What must stand in the map of a frame for an error to come from it (JSON-LD 1.1 Framing, section 4.1).
+-- What must stand in the map of a frame for an error to come from it (JSON-LD 1.1 Framing, section
+-- 4.1).
 use Rattle.std.specs.Prelude.{◌≡◌, List, [], ◌∷◌, ℕ, Bool, true, false, not, ◌&&◌, ◌||◌, Option, Result, Ok, Err, IsTrue, codes}
 use Rattle.std.specs.List.{list_any}
 use Rattle.lf_rdf.specs.Equality.{text_eq}
@@ -59,7 +60,8 @@ is_no_map (object _) = false
 is_no_map (array items) = are_no_map items
 is_no_map _ = true
 
--- a value that a property can't have: a fraction, or an array of several values, also in an array of one
+-- a value that a property can't have: a fraction, or an array of several values, also in an array
+-- of one
 abbrev mutual
   pub is_no_value : JsonValue → Bool
   is_no_value fraction = true
@@ -86,8 +88,9 @@ gives_reverses (keyword name) = text_eq name (codes "@reverse")
 gives_reverses (reverse_property iri) = true
 gives_reverses _ = false
 
--- What a keyword and its value must be for `invalid frame`, with the keys before it: a flag that is neither true nor
--- false, a bad `@graph`, a second source of reverse properties, or another keyword than `@id`, `@type` and `@embed`
+-- What a keyword and its value must be for `invalid frame`, with the keys before it: a flag that is
+-- neither true nor false, a bad `@graph`, a second source of reverse properties, or another keyword
+-- than `@id`, `@type` and `@embed`
 abbrev pub is_misused : List Meaning → FrameKey → JsonValue → Bool
 is_misused before (flag_key embed_key) value = false
 is_misused before (flag_key explicit_key) value = not (is_truth (alone value))
@@ -103,7 +106,8 @@ is_misused before language_key value = true
 is_misused before list_key value = true
 is_misused before other_key value = true
 
--- the same of a key: a property is given a second time, has a value that none can have, or stands under a term with the container `@language`
+-- the same of a key: a property is given a second time, has a value that none can have, or stands
+-- under a term with the container `@language`
 abbrev pub is_misread : List Meaning → Meaning → JsonValue → Bool
 is_misread before dropped value = false
 is_misread before (keyword name) value = is_misused before (frame_key name) value
@@ -111,13 +115,18 @@ is_misread before (property iri term) value =
     list_any (gives iri) before || (is_no_value value || under_language term)
 is_misread before (reverse_property iri) value = list_any gives_reverses before
 
--- what a key and its value must be for an error of frames to come from its map, with the keys before it
+-- what a key and its value must be for an error of frames to come from its map, with the keys
+-- before it
 abbrev pub speaks : LdError → TermTable → List Meaning → Meaning → JsonValue → Bool
 speaks ld.InvalidFrame table before m value = is_misread before m value
-speaks ld.CollidingKeywords table before (keyword name) value = list_any (is_the_keyword name) before
-speaks ld.InvalidEmbedValue table before (keyword name) value = text_eq name (codes "@embed") && is_no_embed value
-speaks ld.InvalidTypeValue table before (keyword name) value = text_eq name (codes "@type") && is_no_type table value
-speaks ld.InvalidIdValue table before (keyword name) value = text_eq name (codes "@id") && is_no_id table value
+speaks ld.CollidingKeywords table before (keyword name) value =
+    list_any (is_the_keyword name) before
+speaks ld.InvalidEmbedValue table before (keyword name) value =
+    text_eq name (codes "@embed") && is_no_embed value
+speaks ld.InvalidTypeValue table before (keyword name) value =
+    text_eq name (codes "@type") && is_no_type table value
+speaks ld.InvalidIdValue table before (keyword name) value =
+    text_eq name (codes "@id") && is_no_id table value
 speaks ld.InvalidIdValue table before (property iri term) value = refers term
 speaks ld.InvalidReverseValue table before (keyword name) value = text_eq name (codes "@reverse")
 speaks ld.InvalidReverseValue table before (reverse_property iri) value = true
@@ -128,7 +137,8 @@ speaks _ _ _ _ _ = false
 -- whether the value of a key holds frames
 abbrev pub holds_frames : Meaning → Bool
 holds_frames dropped = false
-holds_frames (keyword name) = one_of (codes "@graph" ∷ codes "@list" ∷ codes "@reverse" ∷ codes "@set" ∷ []) name
+holds_frames (keyword name) =
+    one_of (codes "@graph" ∷ codes "@list" ∷ codes "@reverse" ∷ codes "@set" ∷ []) name
 holds_frames (property iri term) = true
 holds_frames (reverse_property iri) = true
 

@@ -17,12 +17,21 @@ unfolding frames_open
 link_refused = refl
 
 -- {"@context":"http://e/c"}
-pub remote_refused : frame_of (one (codes "@context") (text (codes "http://e/c"))) ≡ Err ld.LoadingRemoteContextFailed
+pub remote_refused :
+    frame_of (one (codes "@context") (text (codes "http://e/c")))
+    ≡ Err ld.LoadingRemoteContextFailed
 unfolding frames_open
 remote_refused = refl
 
 -- {"@context":{"@version":1.1}} is a frame
-pub version_accepted : frame_of (one (codes "@context") (one (codes "@version") fraction)) ≡ Ok (record { nested = wildcard plain; table = empty_table; context = one (codes "@version") fraction; top_graph = false })
+pub version_accepted :
+    frame_of (one (codes "@context") (one (codes "@version") fraction))
+    ≡ Ok (record {
+      nested = wildcard plain;
+      table = empty_table;
+      context = one (codes "@version") fraction;
+      top_graph = false;
+    })
 unfolding frames_open
 version_accepted = refl
 
@@ -32,17 +41,23 @@ unfolding frames_open
 two_frames_refused = refl
 
 -- {"@context":{"a":{"@id":"b:x"},"b":{"@id":"a:y"}}}
-pub cycle_refused : frame_of (one (codes "@context") (map_of ((codes "a", one (codes "@id") (text (codes "b:x"))) ∷ (codes "b", one (codes "@id") (text (codes "a:y"))) ∷ []))) ≡ Err ld.CyclicIriMapping
+pub cycle_refused :
+    frame_of (one (codes "@context") (map_of ((codes "a", one (codes "@id") (text (codes "b:x")))
+    ∷ (codes "b", one (codes "@id") (text (codes "a:y"))) ∷ []))) ≡ Err ld.CyclicIriMapping
 unfolding frames_open
 cycle_refused = refl
 
 -- {"@context":{"id":"@id"},"@id":{},"id":5}: the collision is found before the second value is read
-pub collision_refused : frame_of (map_of ((codes "@context", one (codes "id") (text (codes "@id"))) ∷ (codes "@id", map_of []) ∷ (codes "id", whole (pos 5)) ∷ [])) ≡ Err ld.CollidingKeywords
+pub collision_refused :
+    frame_of (map_of ((codes "@context", one (codes "id") (text (codes "@id")))
+    ∷ (codes "@id", map_of []) ∷ (codes "id", whole (pos 5)) ∷ [])) ≡ Err ld.CollidingKeywords
 unfolding frames_open
 collision_refused = refl
 
 -- {"@context":{"p":"http://e/p"},"http://e/p":null,"p":{}}: a property that null drops is given
-pub property_collision_refused : frame_of (map_of ((codes "@context", one (codes "p") (text (codes "http://e/p"))) ∷ (codes "http://e/p", null) ∷ (codes "p", map_of []) ∷ [])) ≡ Err ld.InvalidFrame
+pub property_collision_refused :
+    frame_of (map_of ((codes "@context", one (codes "p") (text (codes "http://e/p")))
+    ∷ (codes "http://e/p", null) ∷ (codes "p", map_of []) ∷ [])) ≡ Err ld.InvalidFrame
 unfolding frames_open
 property_collision_refused = refl
 
@@ -60,12 +75,18 @@ unfolding frames_open
 type_refused = refl
 
 -- {"@reverse":{"http://e/p":{"@value":"x"}}}
-pub reverse_pattern_refused : frame_of (one (codes "@reverse") (one (codes "http://e/p") (one (codes "@value") (text (codes "x"))))) ≡ Err ld.InvalidReverseValue
+pub reverse_pattern_refused :
+    frame_of
+    (one (codes "@reverse") (one (codes "http://e/p") (one (codes "@value") (text (codes "x")))))
+    ≡ Err ld.InvalidReverseValue
 unfolding frames_open
 reverse_pattern_refused = refl
 
 -- {"http://e/p":{"@id":{},"@value":"x"}}
-pub value_object_refused : frame_of (one (codes "http://e/p") (map_of ((codes "@id", map_of []) ∷ (codes "@value", text (codes "x")) ∷ []))) ≡ Err ld.InvalidValueObject
+pub value_object_refused :
+    frame_of (one (codes "http://e/p")
+    (map_of ((codes "@id", map_of []) ∷ (codes "@value", text (codes "x")) ∷ [])))
+    ≡ Err ld.InvalidValueObject
 unfolding frames_open
 value_object_refused = refl
 
@@ -78,6 +99,7 @@ pub top_value_refused : frame_of (one (codes "@value") (text (codes "x"))) ≡ E
 unfolding frames_open
 top_value_refused = refl
 
-pub inner_context_refused : frame_of (one (codes "http://e/p") (one (codes "@context") (map_of []))) ≡ Err ld.InvalidFrame
+pub inner_context_refused :
+    frame_of (one (codes "http://e/p") (one (codes "@context") (map_of []))) ≡ Err ld.InvalidFrame
 unfolding frames_open
 inner_context_refused = refl

@@ -1,4 +1,5 @@
--- The flags of a frame (JSON-LD 1.1 Framing, section 4.1: the object embed, explicit inclusion, require all and omit default flags).
+-- The flags of a frame (JSON-LD 1.1 Framing, section 4.1: the object embed, explicit inclusion,
+-- require all and omit default flags).
 use Rattle.std.specs.Prelude.{List, ℕ, Bool, true, false, if◌then◌else◌, Some, Result, Ok, Err, codes}
 use Rattle.lf_rdf.specs.Equality.{text_eq}
 use Rattle.lf_model.specs.declared.frame.Embed.{Embed}

@@ -1,4 +1,5 @@
--- What the keys of a frame's map are, and what the map is by its keys (JSON-LD 1.1 Framing, section 4.1).
+-- What the keys of a frame's map are, and what the map is by its keys (JSON-LD 1.1 Framing, section
+-- 4.1).
 use Rattle.std.specs.Prelude.{List, [], ◌∷◌, ℕ, Bool, true, false, ◌&&◌, ◌||◌, if◌then◌else◌, Option, Some, None, codes}
 use Rattle.std.specs.List.{list_any}
 use Rattle.lf_rdf.specs.Equality.{text_eq}
@@ -62,7 +63,8 @@ abbrev mutual
   pub stands_for_null : TermTable → JsonValue → Bool
   stands_for_null table null = true
   stands_for_null table (array items) = item_for_null table items
-  stands_for_null table (object members) = is_set_only (kept table members) && set_for_null table members
+  stands_for_null table (object members) =
+      is_set_only (kept table members) && set_for_null table members
   stands_for_null table (truth b) = false
   stands_for_null table (whole n) = false
   stands_for_null table fraction = false
@@ -76,12 +78,14 @@ abbrev mutual
   -- the meanings of the keys that are kept
   pub kept : TermTable → JsonMembers → List Meaning
   kept table no_members = []
-  kept table (member key value rest) = keep (meaning_of table key) (stands_for_null table value) (kept table rest)
+  kept table (member key value rest) =
+      keep (meaning_of table key) (stands_for_null table value) (kept table rest)
 
   pub set_for_null : TermTable → JsonMembers → Bool
   set_for_null table no_members = false
   set_for_null table (member key value rest) =
-      (is_the_keyword (codes "@set") (meaning_of table key) && stands_for_null table value) || set_for_null table rest
+      (is_the_keyword (codes "@set") (meaning_of table key) && stands_for_null table value)
+      || set_for_null table rest
 
 -- whether one of the keys is a given keyword
 abbrev pub has_keyword : List ℕ → List Meaning → Bool
@@ -96,7 +100,8 @@ pub data MapClass : Type 0 where
 
 abbrev pub class_of_kept : List Meaning → MapClass
 class_of_kept meanings =
-    if has_keyword (codes "@value") meanings || has_keyword (codes "@language") meanings then value_map
+    if has_keyword (codes "@value") meanings || has_keyword (codes "@language") meanings
+    then value_map
     else if has_keyword (codes "@list") meanings then list_map
     else if is_set_only meanings then set_map
     else node_map

@@ -17,7 +17,8 @@ precedes iri (prop own sub rest) = is_lt (slice_cmp nat_cmp iri own) && precedes
 
 abbrev pub precedes_reverses : List ℕ → Reverses → Bool
 precedes_reverses iri no_reverses = true
-precedes_reverses iri (reverse_prop own sub rest) = is_lt (slice_cmp nat_cmp iri own) && precedes_reverses iri rest
+precedes_reverses iri (reverse_prop own sub rest) =
+    is_lt (slice_cmp nat_cmp iri own) && precedes_reverses iri rest
 
 -- a sub-frame that is no match-none
 abbrev pub is_map : Nested → Bool
@@ -34,8 +35,8 @@ abbrev pub fits_kind : Kind → Props → Reverses → Within → Bool
 fits_kind node_frame _ _ _ = true
 fits_kind _ props reverses within = is_bare props reverses within
 
--- A nested frame as frames give it: at each level properties are in byte order without repeats, patterns and
--- wildcards have none, and match-none stands for properties alone
+-- A nested frame as frames give it: at each level properties are in byte order without repeats,
+-- patterns and wildcards have none, and match-none stands for properties alone
 abbrev mutual
   pub is_sound : Nested → Bool
   is_sound match_none = true
@@ -65,11 +66,13 @@ abbrev mutual
 
 -- the nested frame of a frame is sound
 abbrev pub FramesAreSound : Type 0
-FramesAreSound = (frame : JsonValue) (f : FrameMeaning) → frame_of frame ≡ Ok f → IsTrue (is_sound f.nested)
+FramesAreSound =
+    (frame : JsonValue) (f : FrameMeaning) → frame_of frame ≡ Ok f → IsTrue (is_sound f.nested)
 
 -- the terms of a frame are those of its context
 abbrev pub FrameTermsAreItsContexts : Type 0
-FrameTermsAreItsContexts = (frame : JsonValue) (f : FrameMeaning) → frame_of frame ≡ Ok f → table_of f.context ≡ Ok f.table
+FrameTermsAreItsContexts =
+    (frame : JsonValue) (f : FrameMeaning) → frame_of frame ≡ Ok f → table_of f.context ≡ Ok f.table
 
 -- the error that comes from compaction alone
 abbrev pub is_frame_error : LdError → Bool
@@ -78,14 +81,17 @@ is_frame_error _ = true
 
 -- a frame is refused by the other errors alone
 abbrev pub FrameErrorsAreNamed : Type 0
-FrameErrorsAreNamed = (frame : JsonValue) (e : LdError) → frame_of frame ≡ Err e → IsTrue (is_frame_error e)
+FrameErrorsAreNamed =
+    (frame : JsonValue) (e : LdError) → frame_of frame ≡ Err e → IsTrue (is_frame_error e)
 
 -- an array of one map is that map
 abbrev pub OneMapInAnArray : Type 0
-OneMapInAnArray = (members : JsonMembers) → frame_of (array (item (object members) no_items)) ≡ frame_of (object members)
+OneMapInAnArray = (members : JsonMembers) →
+    frame_of (array (item (object members) no_items)) ≡ frame_of (object members)
 
 -- an error of the context of a frame is the frame's
 abbrev pub ContextErrorsComeFirst : Type 0
 ContextErrorsComeFirst =
-    (members : JsonMembers) (context : JsonValue) (e : LdError) → value_of (codes "@context") members ≡ Some context →
+    (members : JsonMembers) (context : JsonValue) (e : LdError) →
+    value_of (codes "@context") members ≡ Some context →
     table_of context ≡ Err e → frame_of (object members) ≡ Err e

@@ -6,10 +6,16 @@ use Rattle.lf_model.specs.JsonBridge.{json_data}
 use Rattle.def_nested.specs.Unfolding.{nested_frame}
 use Rattle.def_contexts.specs.Frames.{FrameMeaning, frame_of}
 
--- its nested frame is that of node 0, with its table, its context and whether a key of its top map is `@graph`
+-- its nested frame is that of node 0, with its table, its context and whether a key of its top map
+-- is `@graph`
 abbrev pub frame_meaning : Frame → FrameMeaning
 frame_meaning f =
-    record { nested = nested_frame f; table = f.table; context = json_data f.context; top_graph = f.top_graph }
+    record {
+      nested = nested_frame f;
+      table = f.table;
+      context = json_data f.context;
+      top_graph = f.top_graph;
+    }
 
 -- the value stands for a frame's text
 abbrev pub IsFrameOf : JsonValue → Frame → Type 0

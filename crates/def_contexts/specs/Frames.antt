@@ -12,7 +12,8 @@ use Rattle.def_contexts.specs.Table.{table_of}
 use Rattle.def_contexts.specs.FrameKeys.{meaning_of, is_the_keyword}
 use Rattle.def_contexts.specs.SubFrames.{top_frame}
 
--- what a frame text means: its top frame, its terms, its `@context` (null where there is none), and whether a key of its top map is `@graph`
+-- what a frame text means: its top frame, its terms, its `@context` (null where there is none), and
+-- whether a key of its top map is `@graph`
 pub record FrameMeaning : Type 0 where
   pub nested : Nested
   pub table : TermTable
@@ -51,10 +52,12 @@ frame_by context members = do
   table ← table_of context
   inner ← unwrapped table members
   nested ← top_frame table inner
-  Ok (record { nested = nested; table = table; context = context; top_graph = has_graph table members })
+  Ok (record
+      { nested = nested; table = table; context = context; top_graph = has_graph table members })
 
 -- the meaning of a frame, or its error
 unfoldable pub frame_of : JsonValue → Result FrameMeaning LdError
 frame_of frame = do
   members ← one_map frame
-  frame_by (unwrap_or (value_of (codes "@context") members) null) (without_key (codes "@context") members)
+  frame_by (unwrap_or (value_of (codes "@context") members) null)
+      (without_key (codes "@context") members)

@@ -52,7 +52,8 @@ abbrev pub text_coerced : Coercion → TermTable → Option TermDef → List ℕ
 text_coerced to_id table term text = reference_or_refused (node_named table false text)
 text_coerced to_vocab table term text = reference_or_refused (node_named table true text)
 text_coerced (to_datatype iri) table term text = Ok (plain_value (scalar.Text text) (Some iri) None)
-text_coerced uncoerced table term text = Ok (plain_value (scalar.Text text) None (language_under table term))
+text_coerced uncoerced table term text =
+    Ok (plain_value (scalar.Text text) None (language_under table term))
 
 abbrev pub other_coerced : Coercion → Scalar → Given
 other_coerced (to_datatype iri) s = plain_value s (Some iri) None

@@ -7,11 +7,16 @@ use Rattle.def_contexts.specs.Texts.{is_letter}
 
 unfoldable pub keywords : List (List ℕ)
 keywords =
-    codes "@base" ∷ codes "@container" ∷ codes "@context" ∷ codes "@default" ∷ codes "@direction" ∷ codes "@embed"
-    ∷ codes "@explicit" ∷ codes "@graph" ∷ codes "@id" ∷ codes "@import" ∷ codes "@included" ∷ codes "@index"
-    ∷ codes "@json" ∷ codes "@language" ∷ codes "@list" ∷ codes "@nest" ∷ codes "@none" ∷ codes "@null"
-    ∷ codes "@omitDefault" ∷ codes "@prefix" ∷ codes "@preserve" ∷ codes "@propagate" ∷ codes "@protected"
-    ∷ codes "@requireAll" ∷ codes "@reverse" ∷ codes "@set" ∷ codes "@type" ∷ codes "@value" ∷ codes "@version"
+    codes "@base" ∷ codes "@container" ∷ codes "@context" ∷ codes "@default" ∷ codes "@direction"
+    ∷ codes "@embed"
+    ∷ codes "@explicit" ∷ codes "@graph" ∷ codes "@id" ∷ codes "@import" ∷ codes "@included"
+    ∷ codes "@index"
+    ∷ codes "@json" ∷ codes "@language" ∷ codes "@list" ∷ codes "@nest" ∷ codes "@none"
+    ∷ codes "@null"
+    ∷ codes "@omitDefault" ∷ codes "@prefix" ∷ codes "@preserve" ∷ codes "@propagate"
+    ∷ codes "@protected"
+    ∷ codes "@requireAll" ∷ codes "@reverse" ∷ codes "@set" ∷ codes "@type" ∷ codes "@value"
+    ∷ codes "@version"
     ∷ codes "@vocab" ∷ []
 
 -- whether a text is one of a list

@@ -8,4 +8,5 @@ use Rattle.def_patch_texts.specs.Characters.{is_label}
 -- `_:` and a label
 unfoldable pub is_blank_id : List ℕ → Bool
 unfolding chars
-is_blank_id text = starts_with nat_eq text (ch.underscore ∷ ch.colon ∷ []) && is_label (chars (drop 2 text))
+is_blank_id text =
+    starts_with nat_eq text (ch.underscore ∷ ch.colon ∷ []) && is_label (chars (drop 2 text))

@@ -30,7 +30,8 @@ read_reverse iri sub reading = do
   with_reverse iri found reading
 
 -- a keyword other than flags and `@default`, in a node frame
-abbrev pub read_node_key : FrameKey → TermTable → JsonValue → Reader → ReverseReader → Reading → Result Reading LdError
+abbrev pub read_node_key :
+    FrameKey → TermTable → JsonValue → Reader → ReverseReader → Reading → Result Reading LdError
 read_node_key id_key table value sub reverses reading = do
   test ← id_test_of table value
   Ok (record reading { flags = record reading.flags { ids = test }; flags_alone = false })
@@ -40,7 +41,8 @@ read_node_key type_key table value sub reverses reading = do
 read_node_key graph_key table value sub reverses reading = do
   found ← sub of_graph
   Ok (record reading { within = within_found found; flags_alone = false })
-read_node_key reverse_key table value sub reverses reading = reverses (record reading { flags_alone = false })
+read_node_key reverse_key table value sub reverses reading =
+    reverses (record reading { flags_alone = false })
 read_node_key _ table value sub reverses reading = Err InvalidFrame
 
 -- the same in a value pattern
@@ -63,14 +65,21 @@ read_list_key list_key term sub reading = do
   Ok (record reading { item = item_found found })
 read_list_key _ term sub reading = Err InvalidFrame
 
-abbrev pub read_class_key : MapClass → FrameKey → TermTable → Place → JsonValue → Reader → ReverseReader → Reading → Result Reading LdError
-read_class_key value_map key table place value sub reverses reading = read_value_key key table value reading
-read_class_key list_map key table place value sub reverses reading = read_list_key key (term_at place) sub reading
-read_class_key node_map key table place value sub reverses reading = read_node_key key table value sub reverses reading
+abbrev pub read_class_key :
+    MapClass → FrameKey → TermTable → Place → JsonValue → Reader → ReverseReader → Reading →
+    Result Reading LdError
+read_class_key value_map key table place value sub reverses reading =
+    read_value_key key table value reading
+read_class_key list_map key table place value sub reverses reading =
+    read_list_key key (term_at place) sub reading
+read_class_key node_map key table place value sub reverses reading =
+    read_node_key key table value sub reverses reading
 read_class_key set_map key table place value sub reverses reading = Err InvalidFrame
 
 -- flags and `@default` may stand in every map
-abbrev pub read_keyword : MapClass → FrameKey → TermTable → Place → JsonValue → Reader → ReverseReader → Reading → Result Reading LdError
+abbrev pub read_keyword :
+    MapClass → FrameKey → TermTable → Place → JsonValue → Reader → ReverseReader → Reading →
+    Result Reading LdError
 read_keyword class (flag_key flag) table place value sub reverses reading = do
   flags ← flag_stated flag value reading.flags
   Ok (record reading { flags = flags })
@@ -82,16 +91,23 @@ read_keyword class key table place value sub reverses reading =
     read_class_key class key table place value sub reverses reading
 
 -- one key of a map and its value
-abbrev pub read_key : MapClass → Meaning → TermTable → Place → JsonValue → Reader → ReverseReader → Reading → Result Reading LdError
+abbrev pub read_key :
+    MapClass → Meaning → TermTable → Place → JsonValue → Reader → ReverseReader → Reading →
+    Result Reading LdError
 read_key class dropped table place value sub reverses reading = Ok reading
 read_key class (keyword name) table place value sub reverses reading = do
   _ ← refuse (one_of reading.keywords name) CollidingKeywords
-  read_keyword class (frame_key name) table place value sub reverses (record reading { keywords = name ∷ reading.keywords })
-read_key node_map (property iri term) table place value sub reverses reading = read_property iri term sub reading
-read_key value_map (property iri term) table place value sub reverses reading = Err InvalidValueObject
+  read_keyword class (frame_key name) table place value sub reverses
+      (record reading { keywords = name ∷ reading.keywords })
+read_key node_map (property iri term) table place value sub reverses reading =
+    read_property iri term sub reading
+read_key value_map (property iri term) table place value sub reverses reading =
+    Err InvalidValueObject
 read_key _ (property iri term) table place value sub reverses reading = Err InvalidFrame
-read_key node_map (reverse_property iri) table place value sub reverses reading = read_reverse iri sub reading
-read_key value_map (reverse_property iri) table place value sub reverses reading = Err InvalidValueObject
+read_key node_map (reverse_property iri) table place value sub reverses reading =
+    read_reverse iri sub reading
+read_key value_map (reverse_property iri) table place value sub reverses reading =
+    Err InvalidValueObject
 read_key _ (reverse_property iri) table place value sub reverses reading = Err InvalidFrame
 
 -- one key of the map of `@reverse`

@@ -1,6 +1,7 @@
 -- The type mapping and the IRI mapping of a term
 -- (JSON-LD 1.1 Processing Algorithms and API, section 4.2.2, steps 12 to 18).
 use Rattle.std.specs.Prelude.{List, [], ◌∷◌, ◌++◌, ℕ, Bool, true, false, not, ◌&&◌, ◌||◌, if◌then◌else◌, Option, Some, None, Result, Ok, Err, codes}
+use Rattle.lf_base.specs.Ascii as ch
 use Rattle.lf_model.specs.declared.table.TermDef.{TermDef}
 use Rattle.lf_model.specs.declared.error.LdError.{LdError}
 use Rattle.lf_model.specs.declared.error.LdError.TheVariants.{InvalidTypeMapping, InvalidIriMapping, InvalidKeywordAlias}
@@ -20,11 +21,13 @@ pub record Typed : Type 0 where
 
 -- what a type mapping may be: `@id`, `@vocab`, `@none` or an absolute IRI
 abbrev pub is_type_mapping : List ℕ → Bool
-is_type_mapping iri = one_of (codes "@id" ∷ codes "@vocab" ∷ codes "@none" ∷ []) iri || is_absolute iri
+is_type_mapping iri =
+    one_of (codes "@id" ∷ codes "@vocab" ∷ codes "@none" ∷ []) iri || is_absolute iri
 
 abbrev pub type_expanded : Expanded → Option (List ℕ) → Result Typed LdError
 type_expanded e (Some iri) =
-    if is_type_mapping iri then Ok (record { draft = e.draft; coercion = Some iri }) else Err InvalidTypeMapping
+    if is_type_mapping iri then Ok (record { draft = e.draft; coercion = Some iri })
+    else Err InvalidTypeMapping
 type_expanded e None = Err InvalidTypeMapping
 
 abbrev pub type_mapping : Need → Option JsonValue → Draft → Result Typed LdError
@@ -58,7 +61,7 @@ reverse_mapping need _ draft = Err InvalidIriMapping
 
 -- whether a term must itself expand to the IRI that `@id` gives it
 abbrev pub must_expand : List ℕ → Bool
-must_expand name = has_inner_colon name || has_byte 47 name
+must_expand name = has_inner_colon name || has_byte ch.slash name
 
 -- a simple term of a plain name may be a prefix where its IRI ends in a delimiter
 abbrev pub is_prefix_by_form : List ℕ → List ℕ → Bool → Bool
@@ -106,5 +109,6 @@ vocab_mapping name draft None = Err InvalidIriMapping
 abbrev pub name_mapping : Bool → Need → List ℕ → Draft → Result Mapped LdError
 name_mapping true need name draft = do
   after ← need (before_colon name) draft
-  absolute_or_refused after (Some (iri_by_prefix name (find_term (before_colon name) after.table.terms)))
+  absolute_or_refused after
+      (Some (iri_by_prefix name (find_term (before_colon name) after.table.terms)))
 name_mapping false need name draft = vocab_mapping name draft draft.table.vocab

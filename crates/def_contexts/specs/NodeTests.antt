@@ -1,4 +1,5 @@
--- What a frame asks of a node's id and types (JSON-LD 1.1 Framing, section 4.1 and section 5.3, step 1).
+-- What a frame asks of a node's id and types (JSON-LD 1.1 Framing, section 4.1 and section 5.3,
+-- step 1).
 use Rattle.std.specs.Prelude.{List, [], ◌∷◌, ℕ, Bool, true, false, if◌then◌else◌, Option, Some, None, Result, Ok, Err, drop, codes}
 use Rattle.lf_rdf.specs.declared.term.Term.{Term}
 use Rattle.lf_rdf.specs.declared.term.Term.TheVariants.{Iri, Blank}
@@ -81,7 +82,8 @@ type_fallback None = Err InvalidTypeValue
 -- `@type` that asks for types, or gives them to a node that has none by `@default` alone
 abbrev pub types_given : TermTable → JsonValue → Result TypeTest LdError
 types_given table (object (member key value no_members)) =
-    if text_eq key (codes "@default") then type_fallback (nodes_of table true value) else Err InvalidTypeValue
+    if text_eq key (codes "@default") then type_fallback (nodes_of table true value)
+    else Err InvalidTypeValue
 types_given table value = type_list (nodes_of table true value)
 
 -- `@type`

@@ -14,7 +14,8 @@ use Rattle.def_contexts.specs.Outcomes.{◌>>=◌}
 use Rattle.def_contexts.specs.GivenValues.{Given, reference, plain_value, given}
 use Rattle.def_contexts.specs.ValuePatterns.{pattern_of}
 
--- a sub-frame is the value of a property, the item of a list pattern, or the value of `@graph` or of a reverse property; the top frame is none
+-- a sub-frame is the value of a property, the item of a list pattern, or the value of `@graph` or
+-- of a reverse property; the top frame is none
 pub data Place : Type 0 where
   of_property : Option TermDef → Place
   of_item : Option TermDef → Place
@@ -66,7 +67,8 @@ list_unless_list sub (list_pattern_of _) = sub
 list_unless_list sub node_frame = list_holding sub
 list_unless_list sub (value_pattern _) = list_holding sub
 
--- a sub-frame under a term with the container `@list` is the item of a list pattern, unless it is match-none, wild or a list pattern
+-- a sub-frame under a term with the container `@list` is the item of a list pattern, unless it is
+-- match-none, wild or a list pattern
 abbrev pub as_list : Nested → Nested
 as_list match_none = match_none
 as_list (frame_map flags props reverses within kind) =
@@ -93,14 +95,17 @@ empty_at (of_property term) = match_none
 empty_at (of_item term) = match_none
 empty_at _ = wildcard plain
 
--- a text, number or truth value as a sub-frame: a node frame of one id, or a value pattern of one value
+-- a text, number or truth value as a sub-frame: a node frame of one id, or a value pattern of one
+-- value
 abbrev pub frame_of_given : Given → Nested
 frame_of_given (reference node) =
-    frame_map (record plain { ids = id_test.OneOf (node ∷ []) }) no_props no_reverses no_graph node_frame
+    frame_map (record plain { ids = id_test.OneOf (node ∷ []) }) no_props no_reverses no_graph
+    node_frame
 frame_of_given (plain_value s datatype language) =
     frame_map plain no_props no_reverses no_graph (value_pattern (pattern_of s datatype language))
 
-abbrev pub scalar_under : TermTable → Option TermDef → Scalar → Place → Result (Option Nested) LdError
+abbrev pub scalar_under :
+    TermTable → Option TermDef → Scalar → Place → Result (Option Nested) LdError
 scalar_under table term s place = do
   g ← given table term s
   Ok (Some (placed place (frame_of_given g)))

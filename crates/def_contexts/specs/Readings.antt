@@ -1,4 +1,5 @@
--- What the keys of a map have given so far, and the sub-frame that they make (JSON-LD 1.1 Framing, section 4.1).
+-- What the keys of a map have given so far, and the sub-frame that they make (JSON-LD 1.1 Framing,
+-- section 4.1).
 use Rattle.std.specs.Prelude.{List, [], ◌∷◌, ℕ, Bool, true, false, Option, Some, None, Result, Ok, Err}
 use Rattle.std.specs.Ordering.{match_ordering, nat_cmp}
 use Rattle.std.specs.Cmp.Lexicographic.{slice_cmp}
@@ -50,7 +51,8 @@ ReverseReader = Reading → Result Reading LdError
 abbrev pub put_prop : List ℕ → Nested → Props → Props
 put_prop iri sub no_props = prop iri sub no_props
 put_prop iri sub (prop own other rest) =
-    match_ordering (slice_cmp nat_cmp iri own) (prop iri sub (prop own other rest)) (prop iri sub rest)
+    match_ordering (slice_cmp nat_cmp iri own) (prop iri sub (prop own other rest))
+    (prop iri sub rest)
     (prop own other (put_prop iri sub rest))
 
 abbrev pub put_reverse : List ℕ → Nested → Reverses → Reverses
@@ -85,7 +87,8 @@ within_found None = no_graph
 -- the item of a list pattern; match-none gives none
 abbrev pub item_found : Option Nested → Option Nested
 item_found (Some match_none) = None
-item_found (Some (frame_map flags props reverses within kind)) = Some (frame_map flags props reverses within kind)
+item_found (Some (frame_map flags props reverses within kind)) =
+    Some (frame_map flags props reverses within kind)
 item_found None = None
 
 abbrev pub list_kind : Option Nested → Kind

@@ -18,8 +18,10 @@ map_read class place done = do
   reading ← done
   Ok (Some (placed place (frame_read class reading)))
 
--- a map at a place, by what it is: the value of `@set` stands for its map, and a reverse property takes no pattern
-abbrev pub map_by_class : MapClass → Place → (MapClass → Result Reading LdError) → Reader → Result (Option Nested) LdError
+-- a map at a place, by what it is: the value of `@set` stands for its map, and a reverse property
+-- takes no pattern
+abbrev pub map_by_class :
+    MapClass → Place → (MapClass → Result Reading LdError) → Reader → Result (Option Nested) LdError
 map_by_class set_map place read set = set place
 map_by_class value_map of_reverse read set = Err InvalidReverseValue
 map_by_class value_map place read set = map_read value_map place (read value_map)
@@ -28,7 +30,9 @@ map_by_class list_map place read set = map_read list_map place (read list_map)
 map_by_class node_map place read set = map_read node_map place (read node_map)
 
 -- under a term with the container `@language` a map has keywords alone
-abbrev pub map_at : TermTable → JsonMembers → Place → (MapClass → Result Reading LdError) → Reader → Result (Option Nested) LdError
+abbrev pub map_at :
+    TermTable → JsonMembers → Place → (MapClass → Result Reading LdError) → Reader →
+    Result (Option Nested) LdError
 map_at table members place read set = do
   _ ← refuse (under_language (term_at place) && not (are_all_keywords table members)) InvalidFrame
   map_by_class (class_of table members) place read set
@@ -48,7 +52,8 @@ abbrev mutual
   sub_frame table fraction place = Err (place_error place)
   sub_frame table (array items) place = sub_frame_of_items table items place
   sub_frame table (object members) place =
-      map_at table members place (λ class. read_members table members class place unread) (set_value table members)
+      map_at table members place (λ class. read_members table members class place unread)
+      (set_value table members)
 
   -- an array of one element is that element
   pub sub_frame_of_items : TermTable → JsonItems → Place → Result (Option Nested) LdError
@@ -62,14 +67,16 @@ abbrev mutual
   pub read_members : TermTable → JsonMembers → MapClass → Place → Reading → Result Reading LdError
   read_members table no_members class place reading = Ok reading
   read_members table (member key value rest) class place reading = do
-    next ← read_key class (meaning_of table key) table place value (sub_frame table value) (reverse_map table value) reading
+    next ← read_key class (meaning_of table key) table place value (sub_frame table value)
+        (reverse_map table value) reading
     read_members table rest class place next
 
   -- the value of `@set` at a place
   pub set_value : TermTable → JsonMembers → Reader
   set_value table no_members place = Err (place_error place)
   set_value table (member key value rest) place =
-      set_or (is_the_keyword (codes "@set") (meaning_of table key)) (sub_frame table value) (set_value table rest) place
+      set_or (is_the_keyword (codes "@set") (meaning_of table key)) (sub_frame table value)
+      (set_value table rest) place
 
   -- the value of `@reverse`: a map of reverse properties
   pub reverse_map : TermTable → JsonValue → Reading → Result Reading LdError

@@ -21,7 +21,8 @@ is_context_key =
 abbrev pub terms_of : JsonMembers → List Entry
 terms_of no_members = []
 terms_of (member key value rest) =
-    if is_context_key key then terms_of rest else record { name = key; value = value } ∷ terms_of rest
+    if is_context_key key then terms_of rest
+    else record { name = key; value = value } ∷ terms_of rest
 
 -- `@version` is a fraction
 abbrev pub is_bad_version : Option JsonValue → Bool
@@ -39,7 +40,8 @@ is_bad_base (Some _) = true
 abbrev pub has_refused_key : JsonMembers → Bool
 has_refused_key members =
     is_bad_base (value_of (codes "@base") members) || has_key (codes "@direction") members
-    || has_key (codes "@import") members || has_key (codes "@propagate") members || has_key (codes "@protected") members
+    || has_key (codes "@import") members || has_key (codes "@propagate") members
+    || has_key (codes "@protected") members
 
 abbrev pub vocab_expanded : Option (List ℕ) → Result (Option (List ℕ)) LdError
 vocab_expanded (Some iri) = if is_absolute iri then Ok (Some iri) else Err InvalidVocabMapping
@@ -70,7 +72,8 @@ map_table members table = do
 abbrev pub empty_table : TermTable
 empty_table = record { vocab = None; language = None; terms = []; type_set = false }
 
--- a context over the table before it: null empties the table, and an array is read element by element
+-- a context over the table before it: null empties the table, and an array is read element by
+-- element
 abbrev mutual
   pub table_after : JsonValue → TermTable → Result TermTable LdError
   table_after null table = Ok empty_table

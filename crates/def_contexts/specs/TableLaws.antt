@@ -39,9 +39,11 @@ is_absolute_or_none (Some iri) = is_absolute iri
 
 -- the terms of a table are in byte order without repeats
 abbrev pub TermsAscend : Type 0
-TermsAscend = (context : JsonValue) (table : TermTable) → table_of context ≡ Ok table → IsTrue (ascends table.terms)
+TermsAscend = (context : JsonValue) (table : TermTable) → table_of context ≡ Ok table →
+    IsTrue (ascends table.terms)
 
--- the terms of a table have names that are no keywords, and stand for keywords other than `@context`, absolute IRIs or nothing
+-- the terms of a table have names that are no keywords, and stand for keywords other than
+-- `@context`, absolute IRIs or nothing
 abbrev pub TermsAreSound : Type 0
 TermsAreSound =
     (context : JsonValue) (table : TermTable) → table_of context ≡ Ok table →
@@ -56,5 +58,6 @@ VocabIsAbsolute =
 -- each term of a context's table expands with `vocab` to its IRI
 abbrev pub TableTermsGiveTheirIri : Type 0
 TableTermsGiveTheirIri =
-    (context : JsonValue) (table : TermTable) (name : List ℕ) (d : TermDef) → table_of context ≡ Ok table →
+    (context : JsonValue) (table : TermTable) (name : List ℕ) (d : TermDef) →
+    table_of context ≡ Ok table →
     find_term name table.terms ≡ Some d → expand table name true ≡ d.iri

@@ -1,6 +1,7 @@
 -- The parts of a term definition: its container, language and prefix flag
 -- (JSON-LD 1.1 Processing Algorithms and API, section 4.2.2, steps 13, 19, 22 and 25).
 use Rattle.std.specs.Prelude.{List, ℕ, Bool, ◌&&◌, ◌||◌, if◌then◌else◌, Option, Some, None, Result, Ok, Err, codes}
+use Rattle.lf_base.specs.Ascii as ch
 use Rattle.lf_model.specs.declared.table.Container.{Container}
 use Rattle.lf_model.specs.declared.table.Container.TheVariants.{NoContainer, Set, List as ListContainer, Language, LanguageSet}
 use Rattle.lf_model.specs.declared.error.LdError.{LdError}
@@ -60,19 +61,21 @@ language_given e (text language) = Ok (Some (lower language))
 language_given e _ = Err e
 
 -- a language mapping that stands
-abbrev pub stated_language : Result (Option (List ℕ)) LdError → Result (Option (Option (List ℕ))) LdError
+abbrev pub stated_language :
+    Result (Option (List ℕ)) LdError → Result (Option (Option (List ℕ))) LdError
 stated_language (Ok language) = Ok (Some language)
 stated_language (Err e) = Err e
 
 -- the language mapping is read only where there is no type mapping
-abbrev pub language_of : Option JsonValue → Option JsonValue → Result (Option (Option (List ℕ))) LdError
+abbrev pub language_of :
+    Option JsonValue → Option JsonValue → Result (Option (Option (List ℕ))) LdError
 language_of (Some typed) language = Ok None
 language_of None None = Ok None
 language_of None (Some value) = stated_language (language_given InvalidLanguageMapping value)
 
 -- a compact IRI or a path
 abbrev pub has_colon_or_slash : List ℕ → Bool
-has_colon_or_slash name = has_byte 58 name || has_byte 47 name
+has_colon_or_slash name = has_byte ch.colon name || has_byte ch.slash name
 
 -- `@prefix` that stands on a term of this IRI
 abbrev pub prefix_given : List ℕ → JsonValue → Result Bool LdError

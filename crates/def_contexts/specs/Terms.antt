@@ -23,7 +23,8 @@ pub data Source : Type 0 where
 -- the keys that a term definition may have
 abbrev pub is_definition_key : List ℕ → Bool
 is_definition_key =
-    one_of (codes "@id" ∷ codes "@reverse" ∷ codes "@type" ∷ codes "@container" ∷ codes "@language" ∷ codes "@prefix" ∷ [])
+    one_of (codes "@id" ∷ codes "@reverse" ∷ codes "@type" ∷ codes "@container" ∷ codes "@language"
+    ∷ codes "@prefix" ∷ [])
 
 abbrev pub source_of_map : JsonMembers → Option JsonValue → Result Source LdError
 source_of_map _ (Some null) = Ok no_iri
@@ -56,7 +57,8 @@ reverse_term need name members value typed = do
   container ← reverse_container_of (value_of (codes "@container") members)
   Ok (defined (reverse_definition name typed.coercion m.iri container) m.draft)
 
--- where a term's IRI comes from: its `@id`, its own name, or nothing, since `@id` has the form of a keyword and is none
+-- where a term's IRI comes from: its `@id`, its own name, or nothing, since `@id` has the form of a
+-- keyword and is none
 pub data Naming : Type 0 where
   by_id : List ℕ → Naming
   by_name : Naming
@@ -74,7 +76,8 @@ naming_of name None = by_name
 naming_of name (Some (text id)) = naming_of_id name id
 naming_of name (Some _) = no_text
 
-abbrev pub plain_definition : List ℕ → Option (List ℕ) → Option (Option (List ℕ)) → List ℕ → Bool → Container → TermDef
+abbrev pub plain_definition :
+    List ℕ → Option (List ℕ) → Option (Option (List ℕ)) → List ℕ → Bool → Container → TermDef
 plain_definition name coercion language iri prefix container =
     record {
       name = name;
@@ -117,7 +120,8 @@ bare_definition name =
       container = NoContainer;
     }
 
-abbrev pub typed_term : Option JsonValue → Need → List ℕ → JsonMembers → Bool → Typed → Result Draft LdError
+abbrev pub typed_term :
+    Option JsonValue → Need → List ℕ → JsonMembers → Bool → Typed → Result Draft LdError
 typed_term (Some value) need name members simple typed = reverse_term need name members value typed
 typed_term None need name members simple typed =
     plain_term (naming_of name (value_of (codes "@id") members)) need name members simple typed

@@ -21,7 +21,8 @@ is_digit b = nat_le 48 b && nat_le b 57
 
 -- what may follow the first letter of a scheme: a letter, a digit, `+`, `.` or `-`
 abbrev pub is_scheme_byte : ℕ → Bool
-is_scheme_byte b = is_letter b || is_digit b || nat_eq b ch.plus || nat_eq b ch.dot || nat_eq b ch.hyphen
+is_scheme_byte b =
+    is_letter b || is_digit b || nat_eq b ch.plus || nat_eq b ch.dot || nat_eq b ch.hyphen
 
 -- the rest of a scheme and its `:`
 abbrev pub ends_scheme : List ℕ → Bool

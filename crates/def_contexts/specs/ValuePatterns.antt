@@ -71,4 +71,5 @@ one_text None = part.Absent
 -- the pattern of one scalar with its datatype and its language
 abbrev pub pattern_of : Scalar → Option (List ℕ) → Option (List ℕ) → ValuePattern
 pattern_of s datatype language =
-    record { value = part.OneOf (s ∷ []); datatype = one_text datatype; language = one_text language }
+    record
+    { value = part.OneOf (s ∷ []); datatype = one_text datatype; language = one_text language }

@@ -1,4 +1,5 @@
-//! Laws of contexts: IRIs that stay, terms in order, and the causes of errors (JSON-LD 1.1 API, sections 4 and 5).
+//! Laws of contexts: IRIs that stay, terms in order, and the causes of errors (JSON-LD 1.1 API,
+//! sections 4 and 5).
 ghost use Rattle.def_contexts.specs.ExpansionLaws.{KeywordsStay, TermsGiveTheirIri, AbsoluteTextsStay};
 ghost use Rattle.def_contexts.specs.TableLaws.{TermsAscend, TermsAreSound, VocabIsAbsolute, TableTermsGiveTheirIri};
 ghost use Rattle.def_contexts.specs.Circles.{CyclesAreCircles};
@@ -27,7 +28,8 @@ pub fn terms_ascend()
     ensures { TermsAscend }
 {}
 
-/// The terms of a context's table are no keywords, and stand for keywords other than `@context`, absolute IRIs or nothing.
+/// The terms of a context's table are no keywords, and stand for keywords other than `@context`,
+/// absolute IRIs or nothing.
 pub fn terms_are_sound()
     ensures { TermsAreSound }
 {}
@@ -57,7 +59,8 @@ pub fn room_is_enough()
     ensures { RoomIsEnough }
 {}
 
-/// At each level of a frame properties are in byte order without repeats, and patterns and wildcards have none.
+/// At each level of a frame properties are in byte order without repeats, and patterns and
+/// wildcards have none.
 pub fn frames_are_sound()
     ensures { FramesAreSound }
 {}
@@ -67,7 +70,8 @@ pub fn frame_terms_are_its_contexts()
     ensures { FrameTermsAreItsContexts }
 {}
 
-/// An error comes from the map of a frame only where a key in it, or in a map within it, speaks of it.
+/// An error comes from the map of a frame only where a key in it, or in a map within it, speaks of
+/// it.
 pub fn frame_errors_have_causes()
     ensures { FrameErrorsHaveCauses }
 {}

@@ -1,4 +1,5 @@
-//! What a context and a frame mean: their definitions and laws (JSON-LD 1.1 Processing Algorithms and API, sections 4 and 5.2; JSON-LD 1.1 Framing, section 4.1).
+//! What a context and a frame mean: their definitions and laws (JSON-LD 1.1 Processing Algorithms
+//! and API, sections 4 and 5.2; JSON-LD 1.1 Framing, section 4.1).
 #![tactic(auto)]
 
 mod laws;

@@ -1,4 +1,5 @@
--- The cells of RDF lists (RDF Schema 1.1, section 5.2; JSON-LD 1.1 Processing Algorithms and API, section 8.1: conversion of lists).
+-- The cells of RDF lists (RDF Schema 1.1, section 5.2; JSON-LD 1.1 Processing Algorithms and API,
+-- section 8.1: conversion of lists).
 use Rattle.std.specs.Prelude.{List, [], ◌∷◌, ℕ, suc, length, Bool, true, false, ◌&&◌, ◌||◌, not, Option, Some, None}
 use Rattle.std.specs.List.{filter}
 use Rattle.lf_rdf.specs.declared.term.Term.{Term}
@@ -15,7 +16,8 @@ with_predicate iri quads = filter (λ q. is_iri iri q.predicate) quads
 
 -- the quads of a list that are neither `rdf:first` nor `rdf:rest`
 abbrev pub other_quads : List Quad → List Quad
-other_quads quads = filter (λ q. not (is_iri rdf_first q.predicate) && not (is_iri rdf_rest q.predicate)) quads
+other_quads quads =
+    filter (λ q. not (is_iri rdf_first q.predicate) && not (is_iri rdf_rest q.predicate)) quads
 
 -- there is exactly one
 abbrev pub is_one : List Quad → Bool
@@ -41,10 +43,12 @@ has_list_form quads =
     is_one (with_predicate rdf_first quads) && is_one (with_predicate rdf_rest quads)
     && at_most_list_type (other_quads quads)
 
--- a blank node that names no graph, has the triples of a list node in this graph and is used once in all graphs, by a quad of this one
+-- a blank node that names no graph, has the triples of a list node in this graph and is used once
+-- in all graphs, by a quad of this one
 abbrev pub shaped : Answers → GraphRef → Term → Bool
 shaped answers g b =
-    is_blank b && not (answers.named b) && has_list_form (answers.out g b) && is_one_in g (answers.uses b)
+    is_blank b && not (answers.named b) && has_list_form (answers.out g b)
+    && is_one_in g (answers.uses b)
 
 -- the object and the subject of the first quad of a list
 abbrev pub object_of : List Quad → Option Term

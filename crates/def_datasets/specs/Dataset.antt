@@ -1,4 +1,5 @@
--- Datasets and their versions (RDF 1.1 Concepts, section 4: a dataset is a set of triples in each of its graphs).
+-- Datasets and their versions (RDF 1.1 Concepts, section 4: a dataset is a set of triples in each
+-- of its graphs).
 use Rattle.std.specs.Prelude.{List, [], ◌∷◌, ℕ, Bool, if◌then◌else◌, take}
 use Rattle.lf_rdf.specs.declared.quad.Quad.{Quad}
 use Rattle.lf_rdf.specs.declared.quad.Signed.{Signed}
@@ -34,7 +35,8 @@ deletions (signed ∷ rest) = if signed.add then deletions rest else signed.quad
 
 -- the dataset without the quads that a patch deletes, with the quads that it adds
 abbrev pub after : List Quad → List Signed → List Quad
-after dataset patch = sorted.put_all quad_cmp (sorted.without quad_eq dataset (deletions patch)) (additions patch)
+after dataset patch =
+    sorted.put_all quad_cmp (sorted.without quad_eq dataset (deletions patch)) (additions patch)
 
 -- the dataset after one patch and then each of the others
 abbrev pub after_all : List Quad → List (List Signed) → List Quad

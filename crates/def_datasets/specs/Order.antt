@@ -1,5 +1,6 @@
--- The orders of terms and quads: by UTF-8 bytes of ids, of canonical texts and of canonical lines (RDF 1.1 N-Quads, section 4).
--- Terms that no text can hold may share an id or a line; then their parts decide, so that each order is total and tells any two apart.
+-- The orders of terms and quads: by UTF-8 bytes of ids, of canonical texts and of canonical lines
+-- (RDF 1.1 N-Quads, section 4). Terms that no text can hold may share an id or a line; then their
+-- parts decide, so that each order is total and tells any two apart.
 use Rattle.std.specs.Prelude.{List, [], ◌∷◌, ℕ, Option, Some, None}
 use Rattle.std.specs.declared.cmp.Ordering.{Ordering}
 use Rattle.std.specs.Ordering.{nat_cmp, on, then_cmp}
@@ -21,7 +22,8 @@ abbrev pub term_parts : Term → List (List ℕ)
 term_parts (Iri iri) = (0 ∷ []) ∷ iri ∷ []
 term_parts (Blank label) = (1 ∷ []) ∷ label ∷ []
 term_parts (Literal lexical datatype None) = (2 ∷ []) ∷ lexical ∷ datatype ∷ []
-term_parts (Literal lexical datatype (Some language)) = (3 ∷ []) ∷ lexical ∷ datatype ∷ language ∷ []
+term_parts (Literal lexical datatype (Some language)) =
+    (3 ∷ []) ∷ lexical ∷ datatype ∷ language ∷ []
 
 -- a graph label's parts; the default graph has none
 abbrev pub label_parts : Option Term → List (List ℕ)

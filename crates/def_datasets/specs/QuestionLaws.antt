@@ -1,4 +1,5 @@
--- What holds of terms, questions and their answers, whatever the dataset (RDF 1.1 Concepts, section 4).
+-- What holds of terms, questions and their answers, whatever the dataset (RDF 1.1 Concepts, section
+-- 4).
 use Rattle.std.specs.Prelude.{◌≡◌, List, Bool, ◌&&◌, ◌||◌, IsTrue, IsFalse}
 use Rattle.std.specs.List.{filter, list_any}
 use Rattle.lf_rdf.specs.declared.term.Term.{Term}
@@ -15,7 +16,8 @@ use Rattle.def_datasets.specs.Questions.{answer, touches, members, answers_of, r
 
 -- each quad that touches the question is in both datasets or in neither
 abbrev pub AlikeWhereTouched : List Quad → List Quad → Question → Type 0
-AlikeWhereTouched one two question = (q : Quad) → IsTrue (touches q question) → holds one q ≡ holds two q
+AlikeWhereTouched one two question =
+    (q : Quad) → IsTrue (touches q question) → holds one q ≡ holds two q
 
 -- where no quad that is in exactly one of two datasets touches a question, both answer it alike
 abbrev pub UntouchedAnswers : Type 0
@@ -38,7 +40,8 @@ TouchingQuadsDecide =
 
 -- the answers of a dataset, as functions, give its answer to each question
 abbrev pub AnswersReply : Type 0
-AnswersReply = (dataset : List Quad) (question : Question) → reply (answers_of dataset) question ≡ answer dataset question
+AnswersReply = (dataset : List Quad) (question : Question) →
+    reply (answers_of dataset) question ≡ answer dataset question
 
 -- the terms of a dataset stand each once, in order of their ids
 abbrev pub TermsInOrder : Type 0
@@ -46,11 +49,13 @@ TermsInOrder = (dataset : List Quad) → IsTrue (sorted.ascends id_cmp (terms da
 
 -- the nodes of a graph stand each once, in order of their ids
 abbrev pub MembersInOrder : Type 0
-MembersInOrder = (dataset : List Quad) (g : GraphRef) → IsTrue (sorted.ascends id_cmp (members dataset g))
+MembersInOrder =
+    (dataset : List Quad) (g : GraphRef) → IsTrue (sorted.ascends id_cmp (members dataset g))
 
 -- whether a term is the subject, the object or the graph label of a quad
 abbrev pub stands_in : Term → Quad → Bool
-stands_in t q = term_eq t q.subject || (term_eq t q.object || list_any (term_eq t) (label_terms q.graph))
+stands_in t q =
+    term_eq t q.subject || (term_eq t q.object || list_any (term_eq t) (label_terms q.graph))
 
 -- the terms of a dataset are the IRIs and blank nodes that stand in one of its quads
 abbrev pub TermsStandInQuads : Type 0

@@ -1,4 +1,5 @@
--- The questions that are asked of a dataset: what each answers, and which quads touch it (RDF 1.1 Concepts, section 4).
+-- The questions that are asked of a dataset: what each answers, and which quads touch it (RDF 1.1
+-- Concepts, section 4).
 use Rattle.std.specs.Prelude.{List, [], ◌∷◌, ◌++◌, Bool, true, ◌&&◌, if◌then◌else◌}
 use Rattle.std.specs.List.{filter, flat_map, list_any}
 use Rattle.lf_rdf.specs.declared.term.Term.{Term}
@@ -29,13 +30,15 @@ inward dataset g predicate object =
 
 -- the quads of all graphs with this predicate and object
 abbrev pub inward_any : List Quad → Term → Term → List Quad
-inward_any dataset predicate object = filter (λ q. term_eq q.predicate predicate && term_eq q.object object) dataset
+inward_any dataset predicate object =
+    filter (λ q. term_eq q.predicate predicate && term_eq q.object object) dataset
 
 -- whether a quad lies in the graph of this name
 abbrev pub named : List Quad → Term → Bool
 named dataset name = list_any (lies_in (graph.Named name)) dataset
 
--- the IRI and blank nodes that a quad puts into its graph: its subject, and its object unless it tells a type
+-- the IRI and blank nodes that a quad puts into its graph: its subject, and its object unless it
+-- tells a type
 abbrev pub nodes_in : Quad → List Term
 nodes_in q = filter is_node (q.subject ∷ (if tells_type q then [] else q.object ∷ []))
 
@@ -47,7 +50,8 @@ names_in dataset graph.Merged = names dataset
 
 -- the nodes of a graph, each once, in order of their ids
 abbrev pub members : List Quad → GraphRef → List Term
-members dataset g = sorted.set_of id_cmp (flat_map nodes_in (triples dataset g) ++ names_in dataset g)
+members dataset g =
+    sorted.set_of id_cmp (flat_map nodes_in (triples dataset g) ++ names_in dataset g)
 
 -- the answer of a dataset to a question
 abbrev pub answer : List Quad → Question → Answer
@@ -69,14 +73,16 @@ touches_members q graph.Merged = true
 abbrev pub touches : Quad → Question → Bool
 touches q (ask.Out g subject) = lies_in g q && term_eq q.subject subject
 touches q (ask.OutAny subject) = term_eq q.subject subject
-touches q (ask.Inward g predicate object) = lies_in g q && (term_eq q.predicate predicate && term_eq q.object object)
-touches q (ask.InwardAny predicate object) = term_eq q.predicate predicate && term_eq q.object object
+touches q (ask.Inward g predicate object) =
+    lies_in g q && (term_eq q.predicate predicate && term_eq q.object object)
+touches q (ask.InwardAny predicate object) =
+    term_eq q.predicate predicate && term_eq q.object object
 touches q (ask.Uses object) = is_use object q
 touches q (ask.Named name) = lies_in (graph.Named name) q
 touches q (ask.Members g) = touches_members q g
 
--- The answers to all questions as functions: what cells, views and framing are defined over, so that they speak of answers and
--- of nothing else of the dataset.
+-- The answers to all questions as functions: what cells, views and framing are defined over, so
+-- that they speak of answers and of nothing else of the dataset.
 pub record Answers : Type 0 where
   pub out : GraphRef → Term → List Quad
   pub out_any : Term → List Quad

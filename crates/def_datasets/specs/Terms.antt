@@ -1,4 +1,5 @@
--- The graphs of a dataset, its terms and their uses (RDF 1.1 Concepts, sections 3 and 4; JSON-LD 1.1 Framing, section 4.1).
+-- The graphs of a dataset, its terms and their uses (RDF 1.1 Concepts, sections 3 and 4; JSON-LD
+-- 1.1 Framing, section 4.1).
 use Rattle.std.specs.Prelude.{List, [], ◌∷◌, ℕ, Bool, true, false, ◌&&◌, not, Option, Some, None}
 use Rattle.std.specs.List.{filter, flat_map}
 use Rattle.lf_rdf.specs.declared.term.Term.{Term}
@@ -60,10 +61,12 @@ label_terms (Some name) = name ∷ []
 abbrev pub names : List Quad → List Term
 names dataset = sorted.set_of id_cmp (flat_map (λ q. label_terms q.graph) dataset)
 
--- the IRIs and blank nodes that are subject, object or graph label of a quad, each once, in order of their ids
+-- the IRIs and blank nodes that are subject, object or graph label of a quad, each once, in order
+-- of their ids
 abbrev pub terms : List Quad → List Term
 terms dataset =
-    sorted.set_of id_cmp (filter is_node (flat_map (λ q. q.subject ∷ q.object ∷ label_terms q.graph) dataset))
+    sorted.set_of id_cmp
+    (filter is_node (flat_map (λ q. q.subject ∷ q.object ∷ label_terms q.graph) dataset))
 
 -- a quad uses its object, unless its predicate is `rdf:type`
 abbrev pub is_use : Term → Quad → Bool

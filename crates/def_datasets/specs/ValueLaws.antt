@@ -1,4 +1,5 @@
--- What holds of the values of objects, whatever the dataset (JSON-LD 1.1 Processing Algorithms and API, section 8.2).
+-- What holds of the values of objects, whatever the dataset (JSON-LD 1.1 Processing Algorithms and
+-- API, section 8.2).
 use Rattle.std.specs.Prelude.{◌≡◌, List, [], ◌∷◌, map, ℕ, ◌≤◌, Option, Some, IsTrue, IsFalse}
 use Rattle.lf_rdf.specs.declared.term.Term.{Term}
 use Rattle.lf_rdf.specs.declared.term.Term.TheVariants.{Iri, Literal}
@@ -15,7 +16,9 @@ use Rattle.def_datasets.specs.Values.{value_within, value_of}
 abbrev pub LiteralValues : Type 0
 LiteralValues =
     (dataset : List Quad) (g : GraphRef) (lexical datatype : List ℕ) (language : Option (List ℕ))
-    → value_of dataset g (Literal lexical datatype language) ≡ literal (Literal lexical datatype language)
+    →
+    value_of dataset g (Literal lexical datatype language)
+    ≡ literal (Literal lexical datatype language)
 
 -- the value of `rdf:nil` is the empty list
 abbrev pub NilValue : Type 0
@@ -24,14 +27,17 @@ NilValue = (dataset : List Quad) (g : GraphRef) → value_of dataset g (Iri rdf_
 -- the value of any other node that isn't a cell is the reference to it
 abbrev pub ReferenceValues : Type 0
 ReferenceValues =
-    (dataset : List Quad) (g : GraphRef) (node : Term) → IsTrue (is_node node) → IsFalse (is_iri rdf_nil node)
+    (dataset : List Quad) (g : GraphRef) (node : Term) → IsTrue (is_node node) →
+    IsFalse (is_iri rdf_nil node)
     → IsFalse (is_cell dataset g node) → value_of dataset g node ≡ reference node
 
 -- the value of a cell is the list of the value of its item and then the items of its rest
 abbrev pub CellValues : Type 0
 CellValues =
     (dataset : List Quad) (g : GraphRef) (b : Term) → IsTrue (is_cell dataset g b)
-    → (item : Term) × (rest : Term) × (items : ListValues) × (item_of (answers_of dataset) g b ≡ Some item)
+    →
+    (item : Term) × (rest : Term) × (items : ListValues)
+    × (item_of (answers_of dataset) g b ≡ Some item)
     × (rest_of (answers_of dataset) g b ≡ Some rest) × (value_of dataset g rest ≡ list items)
     × (value_of dataset g b ≡ list (value (value_of dataset g item) items))
 
@@ -40,12 +46,14 @@ abbrev pub ItemsFrom : List Quad → GraphRef → Term → List Term → Type 0
 ItemsFrom dataset g b [] = b ≡ Iri rdf_nil
 ItemsFrom dataset g b (item ∷ items) =
     IsTrue (is_cell dataset g b) × (item_of (answers_of dataset) g b ≡ Some item)
-    × ((rest : Term) × (rest_of (answers_of dataset) g b ≡ Some rest) × ItemsFrom dataset g rest items)
+    × ((rest : Term) × (rest_of (answers_of dataset) g b ≡ Some rest)
+    × ItemsFrom dataset g rest items)
 
 -- the items of a list come back in order
 abbrev pub ItemsInOrder : Type 0
 ItemsInOrder =
-    (dataset : List Quad) (g : GraphRef) (b : Term) (items : List Term) → ItemsFrom dataset g b items
+    (dataset : List Quad) (g : GraphRef) (b : Term) (items : List Term) →
+    ItemsFrom dataset g b items
     → value_of dataset g b ≡ list (values_of (map (value_of dataset g) items))
 
 -- the value is found within one step more than there are quads, and no further step changes it

@@ -1,4 +1,5 @@
--- The value of an object: a literal, a list or a reference (JSON-LD 1.1 Processing Algorithms and API, section 8.2: RDF to object conversion).
+-- The value of an object: a literal, a list or a reference (JSON-LD 1.1 Processing Algorithms and
+-- API, section 8.2: RDF to object conversion).
 use Rattle.std.specs.Prelude.{List, ℕ, Bool, true, false, if◌then◌else◌, Option, Some, None}
 use Rattle.lf_rdf.specs.declared.term.Term.{Term}
 use Rattle.lf_rdf.specs.declared.term.Term.TheVariants.{Iri, Blank, Literal}
@@ -28,15 +29,21 @@ joined (Some item) None = None
 joined (Some item) (Some rest) = before_items item rest
 
 -- a cell is the list of its item and then the items of its rest; another node is a reference
-abbrev pub cell_or_reference : Bool → Answers → GraphRef → (Term → Option ListValue) → Term → Option ListValue
-cell_or_reference true answers g self b = joined (found self (item_of answers g b)) (found self (rest_of answers g b))
+abbrev pub cell_or_reference :
+    Bool → Answers → GraphRef → (Term → Option ListValue) → Term → Option ListValue
+cell_or_reference true answers g self b =
+    joined (found self (item_of answers g b)) (found self (rest_of answers g b))
 cell_or_reference false answers g self b = Some (reference b)
 
 -- the value of an object, by the cells of its graph and the values of other objects
-abbrev pub value_step : Answers → GraphRef → (Term → Bool) → (Term → Option ListValue) → Term → Option ListValue
-value_step answers g cell self (Literal lexical datatype language) = Some (literal (Literal lexical datatype language))
-value_step answers g cell self (Iri iri) = Some (if text_eq rdf_nil iri then list no_values else reference (Iri iri))
-value_step answers g cell self (Blank label) = cell_or_reference (cell (Blank label)) answers g self (Blank label)
+abbrev pub value_step :
+    Answers → GraphRef → (Term → Bool) → (Term → Option ListValue) → Term → Option ListValue
+value_step answers g cell self (Literal lexical datatype language) =
+    Some (literal (Literal lexical datatype language))
+value_step answers g cell self (Iri iri) =
+    Some (if text_eq rdf_nil iri then list no_values else reference (Iri iri))
+value_step answers g cell self (Blank label) =
+    cell_or_reference (cell (Blank label)) answers g self (Blank label)
 
 -- the value of an object, as far as some steps find it
 abbrev pub value_within : Answers → GraphRef → ℕ → Term → Option ListValue

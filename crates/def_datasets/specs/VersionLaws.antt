@@ -23,13 +23,17 @@ QuadsDecide =
 -- a patch leaves a dataset in order and without repeats
 abbrev pub PatchKeepsOrder : Type 0
 PatchKeepsOrder =
-    (dataset : List Quad) (patch : List Signed) → IsTrue (is_dataset dataset) → IsTrue (is_dataset (after dataset patch))
+    (dataset : List Quad) (patch : List Signed) → IsTrue (is_dataset dataset) →
+    IsTrue (is_dataset (after dataset patch))
 
--- a quad is there after a patch where the patch adds it, or where it was there and the patch doesn't delete it
+-- a quad is there after a patch where the patch adds it, or where it was there and the patch
+-- doesn't delete it
 abbrev pub PatchDecidesQuads : Type 0
 PatchDecidesQuads =
     (dataset : List Quad) (patch : List Signed) (q : Quad)
-    → holds (after dataset patch) q ≡ (holds (additions patch) q || (holds dataset q && not (holds (deletions patch) q)))
+    →
+    holds (after dataset patch) q
+    ≡ (holds (additions patch) q || (holds dataset q && not (holds (deletions patch) q)))
 
 -- two patches with the same lines, in whatever order and however often, make the same dataset
 abbrev pub LinesInAnyOrder : Type 0
@@ -42,18 +46,23 @@ abbrev pub IdlePatchChangesNothing : Type 0
 IdlePatchChangesNothing =
     (dataset : List Quad) (patch : List Signed) → IsTrue (is_dataset dataset)
     → ((q : Quad) → IsTrue (holds (additions patch) q) → IsTrue (holds dataset q))
-    → ((q : Quad) → IsTrue (holds dataset q) → IsTrue (holds (deletions patch) q) → IsTrue (holds (additions patch) q))
+    →
+    ((q : Quad) → IsTrue (holds dataset q) → IsTrue (holds (deletions patch) q) →
+    IsTrue (holds (additions patch) q))
     → after dataset patch ≡ dataset
 
 -- each version is a dataset
 abbrev pub VersionsAreDatasets : Type 0
-VersionsAreDatasets = (patches : List (List Signed)) (version : ℕ) → IsTrue (is_dataset (at_version patches version))
+VersionsAreDatasets =
+    (patches : List (List Signed)) (version : ℕ) → IsTrue (is_dataset (at_version patches version))
 
 -- the next version is that before, after the next patch
 abbrev pub NextVersion : Type 0
 NextVersion =
     (patches : List (List Signed)) (patch : List Signed)
-    → at_version (patches ++ patch ∷ []) (suc (length patches)) ≡ after (at_version patches (length patches)) patch
+    →
+    at_version (patches ++ patch ∷ []) (suc (length patches))
+    ≡ after (at_version patches (length patches)) patch
 
 -- what follows a version doesn't change it
 abbrev pub VersionsStay : Type 0

@@ -1,5 +1,6 @@
--- The nodes of a graph and what is seen of each: types and properties with their values
--- (JSON-LD 1.1 Processing Algorithms and API, section 7.1: a node map; JSON-LD 1.1 Framing, section 4.1: the merged graph).
+-- The nodes of a graph and what is seen of each: types and properties with their values (JSON-LD
+-- 1.1 Processing Algorithms and API, section 7.1: a node map; JSON-LD 1.1 Framing, section 4.1: the
+-- merged graph).
 use Rattle.std.specs.Prelude.{List, [], ◌∷◌, ◌++◌, map, ℕ, Bool, true, false, ◌&&◌, ◌||◌, not, Option, Some, None, if◌then◌else◌}
 use Rattle.std.specs.List.{filter, flat_map, list_any}
 use Rattle.std.specs.Ordering.{on}
@@ -38,8 +39,8 @@ is_default graph.Default = true
 is_default (graph.Named name) = false
 is_default graph.Merged = false
 
--- A node of one graph is a key where it isn't a cell there and is a subject, or an object of a quad that tells no type and not
--- `rdf:nil`, or, in the default graph, the name of a graph.
+-- A node of one graph is a key where it isn't a cell there and is a subject, or an object of a quad
+-- that tells no type and not `rdf:nil`, or, in the default graph, the name of a graph.
 abbrev pub key_in : Answers → ℕ → GraphRef → Term → Bool
 key_in answers n g s =
     is_node s && not (cell_within answers g n s)
@@ -61,7 +62,8 @@ key_by answers n graph.Merged s = list_any (λ g. key_in answers n g s) (graphs_
 abbrev pub members_of_all : Answers → List Term
 members_of_all answers =
     let defaults = answers.members graph.Default in
-    sorted.set_of id_cmp (defaults ++ flat_map (λ name. answers.members (graph.Named name)) (filter answers.named defaults))
+    sorted.set_of id_cmp (defaults
+    ++ flat_map (λ name. answers.members (graph.Named name)) (filter answers.named defaults))
 
 abbrev pub members_by : Answers → GraphRef → List Term
 members_by answers graph.Default = answers.members graph.Default
@@ -90,7 +92,8 @@ properties_in quads = sorted.set_of text_cmp (map (λ q. id_of q.predicate) quad
 -- the quads of one property, one for each object, in order of the objects' canonical texts
 abbrev pub quads_under : List ℕ → List Quad → List Quad
 quads_under property quads =
-    sorted.set_of (on (λ q. q.object) term_cmp) (filter (λ q. text_eq property (id_of q.predicate)) quads)
+    sorted.set_of (on (λ q. q.object) term_cmp)
+    (filter (λ q. text_eq property (id_of q.predicate)) quads)
 
 -- a property and its values; the value of an object is that in the graph of its quad
 abbrev pub property_by : Answers → ℕ → List Quad → List ℕ → ViewProperty
@@ -104,13 +107,19 @@ property_by answers n quads property =
 abbrev pub view_from : Answers → ℕ → Term → List Quad → View
 view_from answers n s quads =
     let told = property_quads quads in
-    record { id = s; types = types_in quads; props = map (property_by answers n told) (properties_in told) }
+    record {
+      id = s;
+      types = types_in quads;
+      props = map (property_by answers n told) (properties_in told);
+    }
 
--- the quads of a node that count in a graph; in the merged graph those of the graphs in which it is a key
+-- the quads of a node that count in a graph; in the merged graph those of the graphs in which it is
+-- a key
 abbrev pub quads_of : Answers → ℕ → GraphRef → Term → List Quad
 quads_of answers n graph.Default s = answers.out graph.Default s
 quads_of answers n (graph.Named name) s = answers.out (graph.Named name) s
-quads_of answers n graph.Merged s = filter (λ q. key_in answers n (graph_of q) s) (answers.out_any s)
+quads_of answers n graph.Merged s =
+    filter (λ q. key_in answers n (graph_of q) s) (answers.out_any s)
 
 -- the view of a key, and none of another term
 abbrev pub view_by : Answers → ℕ → GraphRef → Term → Option View
@@ -127,13 +136,17 @@ is_reference_to node (list items) = false
 abbrev pub refers : List ℕ → Term → Option View → Bool
 refers property node None = false
 refers property node (Some view) =
-    list_any (λ entry. text_eq entry.property property && list_any (is_reference_to node) entry.values) view.props
+    list_any
+    (λ entry. text_eq entry.property property && list_any (is_reference_to node) entry.values)
+    view.props
 
 -- the keys of a graph that have the reference to a node under a property, in order of their ids
 abbrev pub pointing_by : Answers → ℕ → GraphRef → List ℕ → Term → List Term
-pointing_by answers n g property node = filter (λ s. refers property node (view_by answers n g s)) (keys_by answers n g)
+pointing_by answers n g property node =
+    filter (λ s. refers property node (view_by answers n g s)) (keys_by answers n g)
 
--- whether a term is a key of a graph of a dataset, its keys, the view of a key, and the keys that point at a node
+-- whether a term is a key of a graph of a dataset, its keys, the view of a key, and the keys that
+-- point at a node
 abbrev pub is_key : List Quad → GraphRef → Term → Bool
 is_key dataset g s = key_by (answers_of dataset) (enough dataset) g s
 

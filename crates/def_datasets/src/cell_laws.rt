@@ -7,7 +7,8 @@ pub fn proper_nodes()
     ensures { ProperNodes }
 {}
 
-/// The proper nodes lie in every set of which this holds in one direction: following the rests from them ends.
+/// The proper nodes lie in every set of which this holds in one direction: following the rests from
+/// them ends.
 pub fn proper_nodes_are_least()
     ensures { ProperNodesAreLeast }
 {}

@@ -1,5 +1,5 @@
-//! Datasets and their versions, terms and uses, questions and their answers, list cells and node views:
-//! the definitions that every layer of framing speaks of, and their laws.
+//! Datasets and their versions, terms and uses, questions and their answers, list cells and node
+//! views: the definitions that every layer of framing speaks of, and their laws.
 #![tactic(auto)]
 
 mod cell_laws;

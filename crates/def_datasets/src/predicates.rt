@@ -1,4 +1,5 @@
-//! Tests of terms and quads that programs call: node, blank node, type, graph, use, and what a quad touches.
+//! Tests of terms and quads that programs call: node, blank node, type, graph, use, and what a quad
+//! touches.
 ghost use Rattle.std.specs.Prelude.{◌≡◌};
 ghost use Rattle.def_datasets.specs.Terms.{is_node, is_blank, tells_type, lies_in, is_use};
 ghost use Rattle.def_datasets.specs.Questions.{touches};

@@ -13,7 +13,8 @@ pub fn patch_keeps_order()
     ensures { PatchKeepsOrder }
 {}
 
-/// A quad is there after a patch where the patch adds it, or where it was there and the patch doesn't delete it.
+/// A quad is there after a patch where the patch adds it, or where it was there and the patch
+/// doesn't delete it.
 #[tactic(auto, using(crate::proofs::VersionProofs::patch_decides_quads))]
 pub fn patch_decides_quads()
     ensures { PatchDecidesQuads }

@@ -30,7 +30,8 @@ pub fn view_steps_suffice()
     ensures { ViewStepsSuffice }
 {}
 
-/// An object that two graphs share under properties has one value in both, so a merged view may take either.
+/// An object that two graphs share under properties has one value in both, so a merged view may
+/// take either.
 #[tactic(auto, using(crate::proofs::TellProofs::shared_objects))]
 pub fn shared_objects()
     ensures { SharedObjects }

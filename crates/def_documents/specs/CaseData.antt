@@ -72,14 +72,19 @@ abbrev pub library : TermTable
 library =
     table_of (Some (codes "http://l/"))
     (typed_term (codes "contains") (codes "http://l/contains") (codes "@id") container.Set
-    ∷ typed_term (codes "creator") (codes "http://purl.org/dc/terms/creator") (codes "@id") container.NoContainer
+    ∷ typed_term (codes "creator") (codes "http://purl.org/dc/terms/creator") (codes "@id")
+    container.NoContainer
     ∷ prefix_term (codes "dc") (codes "http://purl.org/dc/terms/")
     ∷ [])
 
 -- a context that gives one term an IRI and a container
 abbrev pub held_context : List ℕ → List ℕ → List ℕ → JsonValue
 held_context name iri held =
-    object (members_of ((name, object (members_of ((codes "@container", text held) ∷ (codes "@id", text iri) ∷ []))) ∷ []))
+    object (members_of ((
+      name,
+      object (members_of ((codes "@container", text held) ∷ (codes "@id", text iri) ∷ [])),
+    )
+    ∷ []))
 
 -- the empty context
 abbrev pub no_context : JsonValue
@@ -91,7 +96,8 @@ node_of iri properties = tree (Some (Iri iri)) [] no_nodes (properties_of proper
 
 -- a blank node with properties
 abbrev pub blank_of : List ℕ → List (List ℕ × TreeEntries) → TreeNode
-blank_of label properties = tree (Some (Blank label)) [] no_nodes (properties_of properties) no_reverses
+blank_of label properties =
+    tree (Some (Blank label)) [] no_nodes (properties_of properties) no_reverses
 
 -- a property with one value, or with several
 abbrev pub one : List ℕ → TreeEntry → List ℕ × TreeEntries

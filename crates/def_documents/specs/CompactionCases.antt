@@ -1,4 +1,5 @@
--- Worked cases of compaction: lists, reverse properties, graphs, types, coercions, and entries under one key.
+-- Worked cases of compaction: lists, reverse properties, graphs, types, coercions, and entries
+-- under one key.
 use Rattle.std.specs.Prelude.{◌≡◌, refl, List, [], ◌∷◌, ℕ, Some, None, true, codes, pos}
 use Rattle.std.specs.Fmt.{digits}
 use Rattle.lf_rdf.specs.declared.term.Term.TheVariants.{Iri, Literal}
@@ -41,8 +42,13 @@ list_beside_value = refl
 -- a node that points here, under `@reverse`, and under a reverse term
 abbrev pointed : TreeNode
 pointed =
-    tree (Some (Iri (codes "http://e/a"))) [] no_nodes (properties_of (one (codes "http://e/n") (plain (codes "A")) ∷ []))
-    (reverses_of ((codes "http://e/p", nodes_of (node_of (codes "http://e/b") (one (codes "http://e/p") (reference (codes "http://e/a")) ∷ []) ∷ [])) ∷ []))
+    tree (Some (Iri (codes "http://e/a"))) [] no_nodes
+    (properties_of (one (codes "http://e/n") (plain (codes "A")) ∷ []))
+    (reverses_of ((
+      codes "http://e/p",
+      nodes_of (node_of (codes "http://e/b")
+          (one (codes "http://e/p") (reference (codes "http://e/a")) ∷ []) ∷ []),
+    ) ∷ []))
 
 pub in_reverse :
     printed no_terms pointed
@@ -51,7 +57,8 @@ unfolding selection_open xsd_string
 in_reverse = refl
 
 pub in_reverse_term :
-    printed (table_of None (record (plain_term (codes "in") (codes "http://e/p")) { reverse = true } ∷ [])) pointed
+    printed (table_of None
+    (record (plain_term (codes "in") (codes "http://e/p")) { reverse = true } ∷ [])) pointed
     ≡ Some (codes "{\"@id\":\"http://e/a\",\"http://e/n\":\"A\",\"in\":{\"@id\":\"http://e/b\",\"http://e/p\":{\"@id\":\"http://e/a\"}}}")
 unfolding selection_open xsd_string
 in_reverse_term = refl
@@ -59,18 +66,25 @@ in_reverse_term = refl
 -- a graph is always an array
 pub named_graph :
     printed no_terms
-    (tree (Some (Iri (codes "http://e/g"))) [] (nodes_of (node_of (codes "http://e/a") (one (codes "http://e/p") (plain (codes "1")) ∷ []) ∷ [])) no_properties no_reverses)
-    ≡ Some (codes "{\"@graph\":[{\"@id\":\"http://e/a\",\"http://e/p\":\"1\"}],\"@id\":\"http://e/g\"}")
+    (tree (Some (Iri (codes "http://e/g"))) [] (nodes_of
+    (node_of (codes "http://e/a") (one (codes "http://e/p") (plain (codes "1")) ∷ []) ∷ []))
+    no_properties no_reverses)
+    ≡ Some (codes
+    "{\"@graph\":[{\"@id\":\"http://e/a\",\"http://e/p\":\"1\"}],\"@id\":\"http://e/g\"}")
 unfolding selection_open xsd_string
 named_graph = refl
 
 -- one type is a text, unless the table asks for an array; several are an array
 abbrev typed : List (List ℕ) → TreeNode
 typed [] = node_of (codes "http://e/a") []
-typed (first ∷ []) = tree (Some (Iri (codes "http://e/a"))) (Iri first ∷ []) no_nodes no_properties no_reverses
-typed (first ∷ second ∷ rest) = tree (Some (Iri (codes "http://e/a"))) (Iri first ∷ Iri second ∷ []) no_nodes no_properties no_reverses
+typed (first ∷ []) =
+    tree (Some (Iri (codes "http://e/a"))) (Iri first ∷ []) no_nodes no_properties no_reverses
+typed (first ∷ second ∷ rest) = tree (Some (Iri (codes "http://e/a"))) (Iri first ∷ Iri second ∷ [])
+    no_nodes no_properties no_reverses
 
-pub one_type : printed no_terms (typed (codes "http://e/T" ∷ [])) ≡ Some (codes "{\"@id\":\"http://e/a\",\"@type\":\"http://e/T\"}")
+pub one_type :
+    printed no_terms (typed (codes "http://e/T" ∷ []))
+    ≡ Some (codes "{\"@id\":\"http://e/a\",\"@type\":\"http://e/T\"}")
 unfolding selection_open
 one_type = refl
 
@@ -94,14 +108,17 @@ pub vocab_coercion :
     ∷ typed_term (codes "colour") (codes "http://e/c") (codes "@id") container.NoContainer
     ∷ typed_term (codes "shade") (codes "http://e/c") (codes "@vocab") container.NoContainer
     ∷ []))
-    (node_of (codes "http://e/a") (many (codes "http://e/c") (reference (codes "http://e/Red") ∷ reference (codes "http://e/Blue") ∷ []) ∷ []))
+    (node_of (codes "http://e/a") (many (codes "http://e/c")
+    (reference (codes "http://e/Red") ∷ reference (codes "http://e/Blue") ∷ []) ∷ []))
     ≡ Some (codes "{\"@id\":\"http://e/a\",\"colour\":\"http://e/Blue\",\"shade\":\"Red\"}")
 unfolding selection_open
 vocab_coercion = refl
 
--- a literal of the coercion's datatype is its text, and one of another datatype a map under another key
+-- a literal of the coercion's datatype is its text, and one of another datatype a map under another
+-- key
 pub datatype_coercion :
-    printed (table_of None (typed_term (codes "age") (codes "http://e/age") (codes "http://e/int") container.NoContainer ∷ []))
+    printed (table_of None (typed_term (codes "age") (codes "http://e/age") (codes "http://e/int")
+    container.NoContainer ∷ []))
     (node_of (codes "http://e/a")
     (many (codes "http://e/age") (literal_entry (Literal (codes "5") (codes "http://e/int") None) ∷ literal_entry (Literal (codes "V") (codes "http://e/roman") None) ∷ []) ∷ []))
     ≡ Some (codes "{\"@id\":\"http://e/a\",\"age\":\"5\",\"http://e/age\":{\"@type\":\"http://e/roman\",\"@value\":\"V\"}}")
@@ -119,27 +136,35 @@ default_scalars = refl
 
 -- two properties that come under one key share an array, in order of their IRIs
 pub shared_key :
-    printed (table_of (Some (codes "http://v/")) (prefix_term (codes "ex") (codes "http://e/") ∷ []))
-    (node_of (codes "http://e/a") (one (codes "http://v/ex:p") (plain (codes "2")) ∷ one (codes "http://e/p") (plain (codes "1")) ∷ []))
+    printed
+    (table_of (Some (codes "http://v/")) (prefix_term (codes "ex") (codes "http://e/") ∷ []))
+    (node_of (codes "http://e/a") (one (codes "http://v/ex:p") (plain (codes "2"))
+    ∷ one (codes "http://e/p") (plain (codes "1")) ∷ []))
     ≡ Some (codes "{\"@id\":\"ex:a\",\"ex:p\":[\"1\",\"2\"]}")
 unfolding selection_open xsd_string
 shared_key = refl
 
 -- keywords by their aliases
 pub aliases :
-    printed (table_of None (plain_term (codes "id") (codes "@id") ∷ held_term (codes "kind") (codes "@type") container.Set ∷ []))
+    printed (table_of None (plain_term (codes "id") (codes "@id")
+    ∷ held_term (codes "kind") (codes "@type") container.Set ∷ []))
     (typed (codes "http://e/T" ∷ []))
     ≡ Some (codes "{\"id\":\"http://e/a\",\"kind\":[\"http://e/T\"]}")
 unfolding selection_open
 aliases = refl
 
--- values of `@reverse`: those with a reverse term stand in the node, behind a property of the same key, and the others under `@reverse`
+-- values of `@reverse`: those with a reverse term stand in the node, behind a property of the same
+-- key, and the others under `@reverse`
 pub reverse_beside_property :
-    printed (table_of None (record (plain_term (codes "foo:") (codes "http://e/p")) { reverse = true } ∷ []))
+    printed (table_of None
+    (record (plain_term (codes "foo:") (codes "http://e/p")) { reverse = true } ∷ []))
     (tree (Some (Iri (codes "http://e/a"))) [] no_nodes (properties_of (one (codes "foo:") (plain (codes "1")) ∷ []))
     (reverses_of (
     (codes "http://e/p", nodes_of (node_of (codes "http://e/b") [] ∷ []))
-    ∷ (codes "http://e/q", nodes_of (node_of (codes "http://e/c") [] ∷ node_of (codes "http://e/d") [] ∷ []))
+    ∷ (
+      codes "http://e/q",
+      nodes_of (node_of (codes "http://e/c") [] ∷ node_of (codes "http://e/d") [] ∷ []),
+    )
     ∷ [])))
     ≡ Some (codes "{\"@id\":\"http://e/a\",\"@reverse\":{\"http://e/q\":[{\"@id\":\"http://e/c\"},{\"@id\":\"http://e/d\"}]},\"foo:\":[\"1\",{\"@id\":\"http://e/b\"}]}")
 unfolding selection_open xsd_string

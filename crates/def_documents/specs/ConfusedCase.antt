@@ -21,17 +21,20 @@ context = object (members_of ((codes "tag", text (codes "http://t/")) ∷ []))
 abbrev before : TreeNode
 before =
     node_of (codes "http://e/a")
-    (one (codes "http://e/n") (plain (codes "A")) ∷ one (codes "http://e/p") (reference (codes "tag:x,1")) ∷ [])
+    (one (codes "http://e/n") (plain (codes "A"))
+    ∷ one (codes "http://e/p") (reference (codes "tag:x,1")) ∷ [])
 
 abbrev after : TreeNode
 after = node_of (codes "http://e/a") (one (codes "http://e/n") (plain (codes "A")) ∷ [])
 
-pub confused_document : document tagging context (matched before ∷ []) ≡ Refused IriConfusedWithPrefix
+pub confused_document :
+    document tagging context (matched before ∷ []) ≡ Refused IriConfusedWithPrefix
 unfolding xsd_string selection_open most_items most_bytes node_items
 confused_document = refl
 
 pub cleared_document :
     document tagging context (matched after ∷ [])
-    ≡ Bytes (codes "{\"@context\":{\"tag\":\"http://t/\"},\"@id\":\"http://e/a\",\"http://e/n\":\"A\"}")
+    ≡ Bytes
+    (codes "{\"@context\":{\"tag\":\"http://t/\"},\"@id\":\"http://e/a\",\"http://e/n\":\"A\"}")
 unfolding xsd_string selection_open most_items most_bytes node_items
 cleared_document = refl

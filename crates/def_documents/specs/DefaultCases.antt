@@ -20,7 +20,8 @@ abbrev in_sets : TermTable
 in_sets = table_of None (held_term (codes "p") (codes "http://e/p") container.Set ∷ [])
 
 pub default_text :
-    document no_terms no_context (matched (with_value (fallback_entry (Scalar (Text (codes "d")) None None))) ∷ [])
+    document no_terms no_context
+    (matched (with_value (fallback_entry (Scalar (Text (codes "d")) None None))) ∷ [])
     ≡ Bytes (codes "{\"@id\":\"http://e/a\",\"http://e/p\":\"d\"}")
 unfolding selection_open most_items most_bytes node_items
 default_text = refl
@@ -33,7 +34,8 @@ default_null = refl
 
 -- an array that holds null alone is empty
 pub null_in_set :
-    document in_sets (held_context (codes "p") (codes "http://e/p") (codes "@set")) (matched (with_value (fallback_entry Null)) ∷ [])
+    document in_sets (held_context (codes "p") (codes "http://e/p") (codes "@set"))
+    (matched (with_value (fallback_entry Null)) ∷ [])
     ≡ Bytes (codes "{\"@context\":{\"p\":{\"@container\":\"@set\",\"@id\":\"http://e/p\"}},\"@id\":\"http://e/a\",\"p\":[]}")
 unfolding selection_open most_items most_bytes node_items
 null_in_set = refl
@@ -47,7 +49,8 @@ default_empty = refl
 
 -- a reference in a default keeps its id
 pub default_reference :
-    document no_terms no_context (matched (with_value (fallback_entry (Ref (Blank (codes "x"))))) ∷ [])
+    document no_terms no_context
+    (matched (with_value (fallback_entry (Ref (Blank (codes "x"))))) ∷ [])
     ≡ Bytes (codes "{\"@id\":\"http://e/a\",\"http://e/p\":{\"@id\":\"_:x\"}}")
 unfolding selection_open most_items most_bytes node_items
 default_reference = refl

@@ -1,4 +1,5 @@
--- The document of a frame and of the outcomes of a dataset's terms (JSON-LD 1.1 Framing, section 4.1: frame, from step 15 on).
+-- The document of a frame and of the outcomes of a dataset's terms (JSON-LD 1.1 Framing, section
+-- 4.1: frame, from step 15 on).
 use Rattle.std.specs.Prelude.{List, [], ◌∷◌, ◌++◌, ℕ, ◌+◌, nat_lt, Option, Some, None, if◌then◌else◌, length, map}
 use Rattle.lf_rdf.specs.declared.term.Term.{Term}
 use Rattle.lf_model.specs.declared.table.TermTable.{TermTable}
@@ -36,7 +37,8 @@ abbrev pub with_tree : TreeNode → Gathered → Gathered
 with_tree found (trees others) = trees (found ∷ others)
 with_tree found (limited limit) = limited limit
 
--- outcome by outcome: a limit, or the tree that takes the sum of items above the most, is the first to decide
+-- outcome by outcome: a limit, or the tree that takes the sum of items above the most, is the first
+-- to decide
 abbrev pub gathered : ℕ → List Outcome → Gathered
 gathered items [] = trees []
 gathered items (not_key ∷ rest) = gathered items rest
@@ -75,7 +77,8 @@ document_json table context maps = object_of (context_entry context ++ top_entri
 
 -- the printed text, unless it is too long
 abbrev pub within_bytes : List ℕ → Doc
-within_bytes printed = if nat_lt most_bytes (length printed) then doc.Over DocumentBytes else doc.Bytes printed
+within_bytes printed =
+    if nat_lt most_bytes (length printed) then doc.Over DocumentBytes else doc.Bytes printed
 
 -- the document of compacted trees; none is the error of compaction
 abbrev pub printed_doc : TermTable → JsonValue → Option (List JsonValue) → Doc
@@ -86,7 +89,8 @@ abbrev pub gathered_doc : TermTable → JsonValue → Gathered → Doc
 gathered_doc table context (limited limit) = doc.Over limit
 gathered_doc table context (trees all) = printed_doc table context (compact_all table (pruned all))
 
--- the document: a limit of framing, else the error of compaction, else the limit of its bytes, else its text
+-- the document: a limit of framing, else the error of compaction, else the limit of its bytes, else
+-- its text
 abbrev pub document : TermTable → JsonValue → List Outcome → Doc
 document table context outcomes = gathered_doc table context (gathered 0 outcomes)
 

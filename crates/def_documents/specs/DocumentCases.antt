@@ -22,27 +22,33 @@ unfolding selection_open most_items most_bytes node_items
 empty_document = refl
 
 pub context_document :
-    document (table_of (Some (codes "http://e/")) []) vocabulary [] ≡ Bytes (codes "{\"@context\":{\"@vocab\":\"http://e/\"}}")
+    document (table_of (Some (codes "http://e/")) []) vocabulary []
+    ≡ Bytes (codes "{\"@context\":{\"@vocab\":\"http://e/\"}}")
 unfolding selection_open most_items most_bytes node_items
 context_document = refl
 
 -- a context that is empty without its version isn't shown; one in a list stays as an empty map
-pub version_alone : document no_terms (object (members_of ((codes "@version", fraction) ∷ []))) [] ≡ Bytes (codes "{}")
+pub version_alone :
+    document no_terms (object (members_of ((codes "@version", fraction) ∷ []))) []
+    ≡ Bytes (codes "{}")
 unfolding selection_open most_items most_bytes node_items
 version_alone = refl
 
 pub version_in_list :
-    document no_terms (array (items_of (object (members_of ((codes "@version", fraction) ∷ [])) ∷ null ∷ []))) []
+    document no_terms
+    (array (items_of (object (members_of ((codes "@version", fraction) ∷ [])) ∷ null ∷ []))) []
     ≡ Bytes (codes "{\"@context\":[{},null]}")
 unfolding selection_open most_items most_bytes node_items
 version_in_list = refl
 
 -- the first limit in order of the terms decides
-pub first_limit : document no_terms no_context (matched leaf ∷ past Depth ∷ past TreeItems ∷ []) ≡ Over Depth
+pub first_limit :
+    document no_terms no_context (matched leaf ∷ past Depth ∷ past TreeItems ∷ []) ≡ Over Depth
 unfolding selection_open most_items most_bytes node_items
 first_limit = refl
 
--- 262,144 items are within the limit, and one more isn't; the tree that passes it comes before a later limit
+-- 262,144 items are within the limit, and one more isn't; the tree that passes it comes before a
+-- later limit
 pub last_item : gathered 262143 (matched leaf ∷ []) ≡ trees (leaf ∷ [])
 unfolding most_items node_items
 last_item = refl

@@ -1,4 +1,5 @@
--- The entries that a property makes (JSON-LD 1.1 Processing Algorithms and API, section 5.1.2, from step 12.8 on).
+-- The entries that a property makes (JSON-LD 1.1 Processing Algorithms and API, section 5.1.2, from
+-- step 12.8 on).
 use Rattle.std.specs.Prelude.{List, [], ◌∷◌, ◌++◌, ℕ, Bool, true, false, Option, Some, None, if◌then◌else◌, map, unwrap_or}
 use Rattle.std.specs.List.{flat_map}
 use Rattle.lf_model.specs.declared.table.TermTable.{TermTable}
@@ -14,7 +15,8 @@ use Rattle.def_selection.specs.Iris.{short_keyword}
 use Rattle.def_documents.specs.Picks.{Plain, literal_plain, scalar_plain}
 use Rattle.def_documents.specs.Grouping.{alone_or_array, grouped, object_of}
 
--- what a value gives to the entry of its property: a value, a text or scalar of a language map, or nothing
+-- what a value gives to the entry of its property: a value, a text or scalar of a language map, or
+-- nothing
 pub data Piece : Type 0 where
   whole_value : JsonValue → Piece
   in_language : List ℕ → JsonValue → Piece
@@ -52,7 +54,8 @@ is_set _ = false
 
 -- a text or scalar under its language, or under the keyword `@none` where it has none
 abbrev pub piece_in_language : TermTable → Plain → Piece
-piece_in_language table plain = in_language (unwrap_or plain.language (short_keyword table at_none)) plain.scalar
+piece_in_language table plain =
+    in_language (unwrap_or plain.language (short_keyword table at_none)) plain.scalar
 
 abbrev pub default_piece : TermTable → DefaultValue → JsonValue → Piece
 default_piece table default.Null json = whole_value json
@@ -68,7 +71,8 @@ mapped_piece table (node_entry node) json = whole_value json
 mapped_piece table (list_entry items) json = whole_value json
 mapped_piece table empty_fallback json = nothing
 
--- what a value gives otherwise: an empty default gives nothing, and every other value what it is compacted to
+-- what a value gives otherwise: an empty default gives nothing, and every other value what it is
+-- compacted to
 abbrev pub plain_piece : TreeEntry → JsonValue → Piece
 plain_piece empty_fallback json = nothing
 plain_piece (node_entry node) json = whole_value json
@@ -78,7 +82,8 @@ plain_piece (fallback_entry value) json = whole_value json
 
 abbrev pub piece_of : TermTable → Option TermDef → TreeEntry → JsonValue → Piece
 piece_of table term value json =
-    if is_language_container (container_of term) then mapped_piece table value json else plain_piece value json
+    if is_language_container (container_of term) then mapped_piece table value json
+    else plain_piece value json
 
 -- the language and text of each piece of a language map
 abbrev pub language_parts : List Filed → List (List ℕ × JsonValue)
@@ -92,24 +97,29 @@ language_parts (first ∷ rest) = elim (first.piece) [
 -- the container of the values' term, where one was chosen
 abbrev pub group_container : List Filed → Container
 group_container [] = container.NoContainer
-group_container (first ∷ rest) = elim (first.term) [ None ↦ group_container rest | Some term ↦ term.container ]
+group_container (first ∷ rest) =
+    elim (first.term) [ None ↦ group_container rest | Some term ↦ term.container ]
 
 -- a language map: one value of a language stands alone without `@set`
 abbrev pub language_map : List Filed → JsonValue
-language_map group = object_of (grouped (alone_or_array (has_set (group_container group))) (language_parts group))
+language_map group =
+    object_of (grouped (alone_or_array (has_set (group_container group))) (language_parts group))
 
--- the elements that the values make, in order; the language map stands at the place of its first text
+-- the elements that the values make, in order; the language map stands at the place of its first
+-- text
 abbrev pub group_elements : JsonValue → Bool → List Filed → List JsonValue
 group_elements languages placed [] = []
 group_elements languages placed (first ∷ rest) = elim (first.piece) [
   | whole_value json ↦ json ∷ group_elements languages placed rest
-  | in_language language scalar ↦ (if placed then [] else languages ∷ []) ++ group_elements languages true rest
+  | in_language language scalar ↦ (if placed then [] else languages ∷ [])
+      ++ group_elements languages true rest
   | nothing ↦ group_elements languages placed rest
 ]
 
 -- the entry of a property under one key
 abbrev pub group_entry : List Filed → JsonValue
-group_entry group = alone_or_array (is_set (group_container group)) (group_elements (language_map group) false group)
+group_entry group = alone_or_array (is_set (group_container group))
+    (group_elements (language_map group) false group)
 
 -- the entries of a property, one under each key that its values have
 abbrev pub property_entries : List Filed → List (List ℕ × JsonValue)
@@ -118,4 +128,5 @@ property_entries filed = grouped group_entry (map (λ value. (value.key, value))
 -- the entries of several properties, in byte order of their IRIs
 abbrev pub entries_in_order : List (List ℕ × List Filed) → List (List ℕ × JsonValue)
 entries_in_order properties =
-    flat_map (λ property. flat_map property_entries property.1) (grouped (λ groups. groups) properties)
+    flat_map (λ property. flat_map property_entries property.1)
+    (grouped (λ groups. groups) properties)

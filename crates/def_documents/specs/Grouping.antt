@@ -1,5 +1,5 @@
--- Entries that come under one key of a map (JSON-LD 1.1 Processing Algorithms and API, section 5.1.2: a map is written in order
--- of its keys; appendix: add value).
+-- Entries that come under one key of a map (JSON-LD 1.1 Processing Algorithms and API, section
+-- 5.1.2: a map is written in order of its keys; appendix: add value).
 use Rattle.std.specs.Prelude.{List, [], ◌∷◌, ℕ, Bool, false, filter, map}
 use Rattle.std.specs.List.{flat_map}
 use Rattle.std.specs.Ordering.{nat_cmp}

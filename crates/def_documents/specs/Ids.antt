@@ -14,7 +14,8 @@ is_id label (Some (Literal lexical datatype language)) = false
 abbrev mutual
   pub node_has_id : List ℕ → TreeNode → Bool
   node_has_id label (tree id types graph properties reverses) =
-      is_id label id || nodes_have_id label graph || properties_have_id label properties || reverses_have_id label reverses
+      is_id label id || nodes_have_id label graph || properties_have_id label properties
+      || reverses_have_id label reverses
 
   pub nodes_have_id : List ℕ → TreeNodes → Bool
   nodes_have_id label no_nodes = false
@@ -22,11 +23,13 @@ abbrev mutual
 
   pub properties_have_id : List ℕ → TreeProperties → Bool
   properties_have_id label no_properties = false
-  properties_have_id label (property iri values rest) = entries_have_id label values || properties_have_id label rest
+  properties_have_id label (property iri values rest) =
+      entries_have_id label values || properties_have_id label rest
 
   pub reverses_have_id : List ℕ → TreeReverses → Bool
   reverses_have_id label no_reverses = false
-  reverses_have_id label (reverse iri nodes rest) = nodes_have_id label nodes || reverses_have_id label rest
+  reverses_have_id label (reverse iri nodes rest) =
+      nodes_have_id label nodes || reverses_have_id label rest
 
   pub entry_has_id : List ℕ → TreeEntry → Bool
   entry_has_id label (node_entry value) = node_has_id label value

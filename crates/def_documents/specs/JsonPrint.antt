@@ -1,5 +1,6 @@
 -- The compact printed text of a JSON value (RFC 8259, section 2: no insignificant whitespace).
 use Rattle.std.specs.Prelude.{List, [], ◌∷◌, ℕ, ◌+◌, ℤ, pos, negsuc, Bool, codes, decimal, if◌then◌else◌}
+use Rattle.lf_base.specs.Ascii as ch
 use Rattle.lf_model.specs.JsonData.{JsonValue, null, truth, whole, fraction, text, array, object, JsonItems, no_items, item, JsonMembers, no_members, member}
 use Rattle.def_printed.specs.JsonText.{json_string, json_member, json_array, json_object}
 
@@ -10,7 +11,7 @@ truth_text flag = if flag then codes "true" else codes "false"
 -- a whole number in decimal digits, with a sign where it is below 0
 abbrev pub whole_text : ℤ → List ℕ
 whole_text (pos n) = decimal n
-whole_text (negsuc n) = 45 ∷ decimal (n + 1)
+whole_text (negsuc n) = ch.hyphen ∷ decimal (n + 1)
 
 -- a value; no document holds a fraction
 abbrev mutual

@@ -42,19 +42,23 @@ PruningRemovesOnce =
 -- where no label is counted once, pruning changes nothing
 abbrev pub PruningMayBeIdle : Type 0
 PruningMayBeIdle =
-    (counts : List ℕ → ℕ) (node : TreeNode) → ((label : List ℕ) → counts label ≢ 1) → prune_node counts node ≡ node
+    (counts : List ℕ → ℕ) (node : TreeNode) → ((label : List ℕ) → counts label ≢ 1) →
+    prune_node counts node ≡ node
 
 -- a pruned tree has as many items
 abbrev pub PruningKeepsItems : Type 0
-PruningKeepsItems = (counts : List ℕ → ℕ) (node : TreeNode) → node_items (prune_node counts node) ≡ node_items node
+PruningKeepsItems =
+    (counts : List ℕ → ℕ) (node : TreeNode) → node_items (prune_node counts node) ≡ node_items node
 
--- a document is refused only with this error, and only where its trees are written with an IRI that is confused
+-- a document is refused only with this error, and only where its trees are written with an IRI that
+-- is confused
 abbrev pub RefusedAsConfused : Type 0
 RefusedAsConfused =
     (table : TermTable) (context : JsonValue) (outcomes : List Outcome) (error : LdError)
     → document table context outcomes ≡ doc.Refused error
     → (error ≡ IriConfusedWithPrefix)
-    × ((all : List TreeNode) × (gathered 0 outcomes ≡ trees all) × (list_any (node_has (is_confused table)) all ≡ true))
+    × ((all : List TreeNode) × (gathered 0 outcomes ≡ trees all)
+    × (list_any (node_has (is_confused table)) all ≡ true))
 
 -- a document's text is within the limit
 abbrev pub TextWithinLimit : Type 0
@@ -65,24 +69,28 @@ TextWithinLimit =
 -- the trees of a document have no more items than the limit
 abbrev pub ItemsWithinLimit : Type 0
 ItemsWithinLimit =
-    (outcomes : List Outcome) (all : List TreeNode) → gathered 0 outcomes ≡ trees all → sum_by node_items all ≤ most_items
+    (outcomes : List Outcome) (all : List TreeNode) → gathered 0 outcomes ≡ trees all →
+    sum_by node_items all ≤ most_items
 
 -- an outcome that is a limit decides, whatever follows, where the outcomes before it have no limit
 abbrev pub FirstLimitDecides : Type 0
 FirstLimitDecides =
-    (before after : List Outcome) (all : List TreeNode) (limit : Limit) → gathered 0 before ≡ trees all
+    (before after : List Outcome) (all : List TreeNode) (limit : Limit) →
+    gathered 0 before ≡ trees all
     → gathered 0 (before ++ past limit ∷ after) ≡ limited limit
 
 -- and a tree that takes the sum of items above the limit decides likewise
 abbrev pub FirstExcessDecides : Type 0
 FirstExcessDecides =
-    (before after : List Outcome) (all : List TreeNode) (found : TreeNode) → gathered 0 before ≡ trees all
+    (before after : List Outcome) (all : List TreeNode) (found : TreeNode) →
+    gathered 0 before ≡ trees all
     → most_items < sum_by node_items all + node_items found
     → gathered 0 (before ++ matched found ∷ after) ≡ limited DocumentItems
 
 -- the keys of a map stand in byte order, each once
 abbrev pub KeysAscend : Type 0
-KeysAscend = (entries : List (List ℕ × JsonValue)) → IsStrictlySortedBy (slice_cmp nat_cmp) (keys_of entries)
+KeysAscend =
+    (entries : List (List ℕ × JsonValue)) → IsStrictlySortedBy (slice_cmp nat_cmp) (keys_of entries)
 
 -- and they are those of the entries
 abbrev pub KeysAreOfEntries : Type 0

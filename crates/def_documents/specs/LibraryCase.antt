@@ -30,8 +30,16 @@ abbrev context : JsonValue
 context = object (members_of (
     (codes "@version", fraction)
     ∷ (codes "@vocab", text (codes "http://l/"))
-    ∷ (codes "contains", object (members_of ((codes "@container", text (codes "@set")) ∷ (codes "@type", text (codes "@id")) ∷ [])))
-    ∷ (codes "creator", object (members_of ((codes "@id", text (codes "dc:creator")) ∷ (codes "@type", text (codes "@id")) ∷ [])))
+    ∷ (
+      codes "contains",
+      object (members_of ((codes "@container", text (codes "@set"))
+          ∷ (codes "@type", text (codes "@id")) ∷ [])),
+    )
+    ∷ (
+      codes "creator",
+      object (members_of ((codes "@id", text (codes "dc:creator"))
+          ∷ (codes "@type", text (codes "@id")) ∷ [])),
+    )
     ∷ (codes "dc", text (codes "http://purl.org/dc/terms/"))
     ∷ []))
 

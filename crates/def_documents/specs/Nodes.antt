@@ -34,7 +34,8 @@ short_types table (first ∷ rest) = do
 
 -- one type is an array too: the key is `@type` and the table says so, or a term with `@set`
 abbrev pub types_in_array : TermTable → List ℕ → Bool
-types_in_array table key = text_eq key at_type && table.type_set || has_set (container_of (term_named table key))
+types_in_array table key =
+    text_eq key at_type && table.type_set || has_set (container_of (term_named table key))
 
 -- the entry of the types, where there are any
 abbrev pub type_entry : TermTable → List Term → Option (List (List ℕ × JsonValue))
@@ -47,7 +48,8 @@ type_entry table (first ∷ rest) = do
 -- the entry of the nodes of a graph, always an array
 abbrev pub graph_entry : TermTable → List JsonValue → List (List ℕ × JsonValue)
 graph_entry table [] = []
-graph_entry table (first ∷ rest) = (short_keyword table at_graph, array (items_of (first ∷ rest))) ∷ []
+graph_entry table (first ∷ rest) =
+    (short_keyword table at_graph, array (items_of (first ∷ rest))) ∷ []
 
 -- the value was filed under a reverse term
 abbrev pub is_turned : Filed → Bool
@@ -66,17 +68,22 @@ abbrev pub turned_entries : List (List ℕ × List Filed) → List (List ℕ × 
 turned_entries reverses = entries_in_order (map (λ r. (r.0, filter is_turned r.1)) reverses)
 
 -- the id of a node that has nothing but an id
-abbrev pub lone_id : Option Term → List Term → TreeNodes → TreeProperties → TreeReverses → Option Term
+abbrev pub lone_id :
+    Option Term → List Term → TreeNodes → TreeProperties → TreeReverses → Option Term
 lone_id id [] no_nodes no_properties no_reverses = id
 lone_id _ _ _ _ _ = None
 
 -- a node that has an id alone by its coercion, and any other by its map
-abbrev pub reference_or_map : TermTable → Option TermDef → Option Term → Option JsonValue → Option JsonValue
+abbrev pub reference_or_map :
+    TermTable → Option TermDef → Option Term → Option JsonValue → Option JsonValue
 reference_or_map table term None map = map
 reference_or_map table term (Some id) map = reference_json table term id
 
--- the parts of a node's map: the keywords first, then the properties, then those under reverse terms
-abbrev pub node_map : TermTable → List (List ℕ × JsonValue) → List (List ℕ × JsonValue) → List JsonValue → List (List ℕ × List Filed) → List (List ℕ × List Filed) → JsonValue
+-- the parts of a node's map: the keywords first, then the properties, then those under reverse
+-- terms
+abbrev pub node_map :
+    TermTable → List (List ℕ × JsonValue) → List (List ℕ × JsonValue) → List JsonValue →
+    List (List ℕ × List Filed) → List (List ℕ × List Filed) → JsonValue
 node_map table ids types graph properties reverses =
     object_of
     (ids ++ types ++ graph_entry table graph ++ reverse_entry table reverses ++ entries_in_order properties
@@ -91,7 +98,8 @@ list_json table term items =
 abbrev pub default_json : TermTable → Option TermDef → DefaultValue → Option JsonValue
 default_json table term default.Null = Some null
 default_json table term (default.Ref id) = reference_json table term id
-default_json table term (default.Scalar value datatype language) = plain_json table term (scalar_plain value datatype language)
+default_json table term (default.Scalar value datatype language) =
+    plain_json table term (scalar_plain value datatype language)
 
 -- a property's sole value
 abbrev pub is_sole : TreeEntries → Bool
@@ -100,7 +108,8 @@ is_sole _ = false
 
 -- the value of a property with its key and what it gives
 abbrev pub filed_value : TermTable → List ℕ → Option TermDef → TreeEntry → JsonValue → Filed
-filed_value table key term value json = record { key = key; term = term; piece = piece_of table term value json }
+filed_value table key term value json =
+    record { key = key; term = term; piece = piece_of table term value json }
 
 abbrev mutual
   -- a node under a chosen term, or none

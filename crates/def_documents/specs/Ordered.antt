@@ -17,7 +17,8 @@ abbrev mutual
   IsOrdered (text characters) = Unit {0}
   IsOrdered (array items) = AreOrdered items
   IsOrdered (object members) =
-      IsStrictlySortedBy (slice_cmp nat_cmp) (map (λ entry. entry.0) (members_list members)) × HaveOrdered members
+      IsStrictlySortedBy (slice_cmp nat_cmp) (map (λ entry. entry.0) (members_list members))
+      × HaveOrdered members
 
   -- each item of an array
   pub AreOrdered : JsonItems → Type 0
@@ -32,4 +33,5 @@ abbrev mutual
 -- each object of a compacted tree has its members in byte order of the keys, each key once
 abbrev pub CompactedIsOrdered : Type 0
 CompactedIsOrdered =
-    (table : TermTable) (root : TreeNode) (json : JsonValue) → compact table root ≡ Some json → IsOrdered json
+    (table : TermTable) (root : TreeNode) (json : JsonValue) → compact table root ≡ Some json →
+    IsOrdered json

@@ -1,5 +1,5 @@
--- What a value asks of a term (JSON-LD 1.1 Processing Algorithms and API, section 6.2: the containers, the type or language and its
--- value that IRI compaction looks for).
+-- What a value asks of a term (JSON-LD 1.1 Processing Algorithms and API, section 6.2: the
+-- containers, the type or language and its value that IRI compaction looks for).
 use Rattle.std.specs.Prelude.{List, [], ◌∷◌, ◌++◌, ℕ, Bool, true, false, ◌&&◌, Option, Some, None, if◌then◌else◌}
 use Rattle.lf_rdf.specs.declared.term.Term.{Term}
 use Rattle.lf_rdf.specs.declared.term.Term.TheVariants.{Iri, Blank, Literal}
@@ -35,10 +35,13 @@ counted_datatype datatype = if text_eq datatype xsd_string then None else Some d
 
 -- the value object of a literal; one with a language has no datatype
 abbrev pub literal_plain : Term → Plain
-literal_plain (Literal lexical datatype (Some language)) = record { scalar = text lexical; datatype = None; language = Some language }
-literal_plain (Literal lexical datatype None) = record { scalar = text lexical; datatype = counted_datatype datatype; language = None }
+literal_plain (Literal lexical datatype (Some language)) =
+    record { scalar = text lexical; datatype = None; language = Some language }
+literal_plain (Literal lexical datatype None) =
+    record { scalar = text lexical; datatype = counted_datatype datatype; language = None }
 literal_plain (Iri iri) = record { scalar = text iri; datatype = None; language = None }
-literal_plain (Blank label) = record { scalar = text (id_of (Blank label)); datatype = None; language = None }
+literal_plain (Blank label) =
+    record { scalar = text (id_of (Blank label)); datatype = None; language = None }
 
 abbrev pub scalar_json : Scalar → JsonValue
 scalar_json (scalar.Text lexical) = text lexical
@@ -47,12 +50,18 @@ scalar_json (scalar.Bool flag) = truth flag
 
 -- the value object of a default scalar, whose datatype stays as it is written
 abbrev pub scalar_plain : Scalar → Option (List ℕ) → Option (List ℕ) → Plain
-scalar_plain value datatype language = record { scalar = scalar_json value; datatype = datatype; language = language }
+scalar_plain value datatype language =
+    record { scalar = scalar_json value; datatype = datatype; language = language }
 
 -- a pick of a value: these slots, then `@none` and `@any`
 abbrev pub pick : List Container → PickKind → List (List ℕ) → Pick
 pick containers kind preferred =
-    record { containers = containers; kind = kind; preferred = preferred ++ at_none ∷ at_any ∷ []; has_value = true }
+    record {
+      containers = containers;
+      kind = kind;
+      preferred = preferred ++ at_none ∷ at_any ∷ [];
+      has_value = true;
+    }
 
 abbrev pub sets : List Container
 sets = container.Set ∷ container.NoContainer ∷ []
@@ -68,7 +77,8 @@ datatype_pick datatype = pick sets TypeKind (datatype ∷ [])
 
 -- any other literal or scalar: a language map last
 abbrev pub untyped_pick : Pick
-untyped_pick = pick (sets ++ container.Language ∷ container.LanguageSet ∷ []) LanguageKind (at_null ∷ [])
+untyped_pick =
+    pick (sets ++ container.Language ∷ container.LanguageSet ∷ []) LanguageKind (at_null ∷ [])
 
 -- a scalar by its datatype
 abbrev pub scalar_pick : Option (List ℕ) → Pick
@@ -93,7 +103,8 @@ becomes_term table iri (Some compacted) = names_term_for iri (term_named table c
 -- the slots of a node with an id: `@vocab` before `@id` where the id compacts to a term
 abbrev pub id_slots : TermTable → Term → List (List ℕ)
 id_slots table (Iri iri) =
-    if becomes_term table iri (short table iri true no_value) then at_vocab ∷ at_id ∷ [] else at_id ∷ at_vocab ∷ []
+    if becomes_term table iri (short table iri true no_value) then at_vocab ∷ at_id ∷ []
+    else at_id ∷ at_vocab ∷ []
 id_slots table (Blank label) = at_id ∷ at_vocab ∷ []
 id_slots table (Literal lexical datatype language) = at_id ∷ at_vocab ∷ []
 
@@ -112,7 +123,8 @@ default_pick table default.Null = node_pick table None
 default_pick table (default.Ref id) = node_pick table (Some id)
 default_pick table (default.Scalar value datatype language) = scalar_pick datatype
 
--- what an item of a list is: of a datatype, of a language, a text or scalar without either, or a node or list
+-- what an item of a list is: of a datatype, of a language, a text or scalar without either, or a
+-- node or list
 pub data ItemKind : Type 0 where
   of_datatype : List ℕ → ItemKind
   of_language : List ℕ → ItemKind
@@ -139,7 +151,8 @@ default_kind (default.Scalar value datatype language) = plain_kind datatype lang
 abbrev pub item_kind : TreeEntry → ItemKind
 item_kind (node_entry node) = of_node
 item_kind (list_entry items) = of_node
-item_kind (literal_entry literal) = plain_kind (literal_plain literal).datatype (literal_plain literal).language
+item_kind (literal_entry literal) =
+    plain_kind (literal_plain literal).datatype (literal_plain literal).language
 item_kind (fallback_entry value) = default_kind value
 item_kind empty_fallback = of_node
 
@@ -164,7 +177,8 @@ list_pick containers (entry first rest) =
 
 -- the container `@list` is tried only for a property's sole value
 abbrev pub list_containers : Bool → List Container
-list_containers sole = if sole then container.List ∷ container.NoContainer ∷ [] else container.NoContainer ∷ []
+list_containers sole =
+    if sole then container.List ∷ container.NoContainer ∷ [] else container.NoContainer ∷ []
 
 abbrev pub tree_id : TreeNode → Option Term
 tree_id (tree id _ _ _ _) = id
@@ -172,7 +186,8 @@ tree_id (tree id _ _ _ _) = id
 -- the pick of a property's value
 abbrev pub pick_of : TermTable → Bool → TreeEntry → Pick
 pick_of table sole (node_entry node) = node_pick table (tree_id node)
-pick_of table sole (literal_entry literal) = literal_pick (literal_plain literal).language (literal_plain literal).datatype
+pick_of table sole (literal_entry literal) =
+    literal_pick (literal_plain literal).language (literal_plain literal).datatype
 pick_of table sole (list_entry items) = list_pick (list_containers sole) items
 pick_of table sole (fallback_entry value) = default_pick table value
 pick_of table sole empty_fallback = node_pick table None

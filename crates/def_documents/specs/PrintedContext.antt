@@ -1,4 +1,5 @@
--- The context that a document shows (JSON-LD 1.1 Framing, section 4.1: the context of the frame), without its `@version` entries.
+-- The context that a document shows (JSON-LD 1.1 Framing, section 4.1: the context of the frame),
+-- without its `@version` entries.
 use Rattle.std.specs.Prelude.{List, [], ◌∷◌, ℕ, if◌then◌else◌}
 use Rattle.lf_rdf.specs.Equality.{text_eq}
 use Rattle.lf_model.specs.JsonData.{JsonValue, null, truth, whole, fraction, text, array, object, JsonItems, no_items, item, JsonMembers, no_members, member}
@@ -17,7 +18,8 @@ abbrev mutual
 
   pub items_without_version : JsonItems → JsonItems
   items_without_version no_items = no_items
-  items_without_version (item value rest) = item (without_version value) (items_without_version rest)
+  items_without_version (item value rest) =
+      item (without_version value) (items_without_version rest)
 
   pub members_without_version : JsonMembers → JsonMembers
   members_without_version no_members = no_members

@@ -27,11 +27,13 @@ count_default label default.Null = 0
 count_default label (default.Ref id) = count_term label id
 count_default label (default.Scalar value datatype language) = 0
 
--- how often a label stands in a tree: at the id of each node and reference, in references of defaults, and among the types
+-- how often a label stands in a tree: at the id of each node and reference, in references of
+-- defaults, and among the types
 abbrev mutual
   pub count_node : List ℕ → TreeNode → ℕ
   count_node label (tree id types graph properties reverses) =
-      count_id label id + count_types label types + count_nodes label graph + count_properties label properties
+      count_id label id + count_types label types + count_nodes label graph
+      + count_properties label properties
       + count_reverses label reverses
 
   pub count_nodes : List ℕ → TreeNodes → ℕ
@@ -40,11 +42,13 @@ abbrev mutual
 
   pub count_properties : List ℕ → TreeProperties → ℕ
   count_properties label no_properties = 0
-  count_properties label (property iri values rest) = count_entries label values + count_properties label rest
+  count_properties label (property iri values rest) =
+      count_entries label values + count_properties label rest
 
   pub count_reverses : List ℕ → TreeReverses → ℕ
   count_reverses label no_reverses = 0
-  count_reverses label (reverse iri nodes rest) = count_nodes label nodes + count_reverses label rest
+  count_reverses label (reverse iri nodes rest) =
+      count_nodes label nodes + count_reverses label rest
 
   pub count_entry : List ℕ → TreeEntry → ℕ
   count_entry label (node_entry value) = count_node label value
@@ -67,13 +71,15 @@ abbrev pub prune_id : (List ℕ → ℕ) → Option Term → Option Term
 prune_id counts None = None
 prune_id counts (Some (Iri iri)) = Some (Iri iri)
 prune_id counts (Some (Blank label)) = if counts label == 1 then None else Some (Blank label)
-prune_id counts (Some (Literal lexical datatype language)) = Some (Literal lexical datatype language)
+prune_id counts (Some (Literal lexical datatype language)) =
+    Some (Literal lexical datatype language)
 
 -- the tree without those ids; types and references of defaults stay
 abbrev mutual
   pub prune_node : (List ℕ → ℕ) → TreeNode → TreeNode
   prune_node counts (tree id types graph properties reverses) =
-      tree (prune_id counts id) types (prune_nodes counts graph) (prune_properties counts properties)
+      tree (prune_id counts id) types (prune_nodes counts graph)
+      (prune_properties counts properties)
       (prune_reverses counts reverses)
 
   pub prune_nodes : (List ℕ → ℕ) → TreeNodes → TreeNodes
@@ -87,7 +93,8 @@ abbrev mutual
 
   pub prune_reverses : (List ℕ → ℕ) → TreeReverses → TreeReverses
   prune_reverses counts no_reverses = no_reverses
-  prune_reverses counts (reverse iri nodes rest) = reverse iri (prune_nodes counts nodes) (prune_reverses counts rest)
+  prune_reverses counts (reverse iri nodes rest) =
+      reverse iri (prune_nodes counts nodes) (prune_reverses counts rest)
 
   pub prune_entry : (List ℕ → ℕ) → TreeEntry → TreeEntry
   prune_entry counts (node_entry value) = node_entry (prune_node counts value)
@@ -98,4 +105,5 @@ abbrev mutual
 
   pub prune_entries : (List ℕ → ℕ) → TreeEntries → TreeEntries
   prune_entries counts no_entries = no_entries
-  prune_entries counts (entry first rest) = entry (prune_entry counts first) (prune_entries counts rest)
+  prune_entries counts (entry first rest) =
+      entry (prune_entry counts first) (prune_entries counts rest)

@@ -28,11 +28,13 @@ second_tree = node_of (codes "http://e/b") (one (codes "http://e/p") (node_entry
 -- the label occurs once, so the node has no id
 pub blank_pruned :
     document no_terms no_context (matched lone_blank ∷ matched named ∷ [])
-    ≡ Bytes (codes "{\"@graph\":[{\"http://e/p\":\"1\"},{\"@id\":\"http://e/a\",\"http://e/p\":\"2\"}]}")
+    ≡ Bytes (codes
+    "{\"@graph\":[{\"http://e/p\":\"1\"},{\"@id\":\"http://e/a\",\"http://e/p\":\"2\"}]}")
 unfolding xsd_string selection_open most_items most_bytes node_items
 blank_pruned = refl
 
--- the count is over all trees of the document: two trees share the node, and it keeps its id in both
+-- the count is over all trees of the document: two trees share the node, and it keeps its id in
+-- both
 pub shared_blank :
     document no_terms no_context (matched first_tree ∷ matched second_tree ∷ not_key ∷ [])
     ≡ Bytes (codes "{\"@graph\":[{\"@id\":\"http://e/a\",\"http://e/p\":{\"@id\":\"_:x\",\"http://e/q\":\"1\"}},{\"@id\":\"http://e/b\",\"http://e/p\":{\"@id\":\"_:x\",\"http://e/q\":\"1\"}}]}")

@@ -14,8 +14,8 @@ use Rattle.def_selection.specs.Chosen.{chosen}
 use Rattle.def_documents.specs.CaseData.{held_term, many, node_of, plain, plain_term, printed, reference, table_of, tagged, typed_term}
 use Rattle.def_documents.specs.Picks.{pick_of}
 
--- the containers of each kind of value, in order: a text with a language asks for language maps first, one without asks for them last, and
--- no other value asks for them
+-- the containers of each kind of value, in order: a text with a language asks for language maps
+-- first, one without asks for them last, and no other value asks for them
 abbrev mixed : TreeNode
 mixed =
     node_of (codes "http://e/a")
@@ -62,10 +62,12 @@ pub set_and_one :
 unfolding selection_open xsd_string rdf_lang_string
 set_and_one = refl
 
--- the term that a list asks for: any term where it is empty, and otherwise by what all of its items are
+-- the term that a list asks for: any term where it is empty, and otherwise by what all of its items
+-- are
 abbrev list_term : List ℕ → Option (List ℕ) → Option (Option (List ℕ)) → TermDef
 list_term name coercion language =
-    record (held_term name (codes "http://e/l") container.List) { coercion = coercion; language = language }
+    record (held_term name (codes "http://e/l") container.List)
+    { coercion = coercion; language = language }
 
 abbrev list_terms : TermTable
 list_terms =
@@ -79,7 +81,8 @@ list_terms =
 
 abbrev term_of_list : List TreeEntry → Option (List ℕ)
 term_of_list items =
-    option_map (λ term. term.name) (chosen list_terms (codes "http://e/l") (pick_of list_terms true (list_entry (entries_of items))))
+    option_map (λ term. term.name) (chosen list_terms (codes "http://e/l")
+    (pick_of list_terms true (list_entry (entries_of items))))
 
 abbrev number : TreeEntry
 number = literal_entry (Literal (codes "5") (codes "http://e/int") None)
@@ -92,15 +95,20 @@ pub datatype_list_term : term_of_list (number ∷ number ∷ []) ≡ Some (codes
 unfolding selection_open xsd_string
 datatype_list_term = refl
 
-pub node_list_term : term_of_list (reference (codes "http://e/b") ∷ list_entry (entries_of []) ∷ []) ≡ Some (codes "id")
+pub node_list_term :
+    term_of_list (reference (codes "http://e/b") ∷ list_entry (entries_of []) ∷ [])
+    ≡ Some (codes "id")
 unfolding selection_open
 node_list_term = refl
 
-pub language_list_term : term_of_list (tagged (codes "x") (codes "en") ∷ tagged (codes "y") (codes "en") ∷ []) ≡ Some (codes "english")
+pub language_list_term :
+    term_of_list (tagged (codes "x") (codes "en") ∷ tagged (codes "y") (codes "en") ∷ [])
+    ≡ Some (codes "english")
 unfolding selection_open rdf_lang_string
 language_list_term = refl
 
-pub plain_list_term : term_of_list (plain (codes "x") ∷ plain (codes "y") ∷ []) ≡ Some (codes "plain")
+pub plain_list_term :
+    term_of_list (plain (codes "x") ∷ plain (codes "y") ∷ []) ≡ Some (codes "plain")
 unfolding selection_open xsd_string
 plain_list_term = refl
 
@@ -121,7 +129,8 @@ german terms = record (table_of None terms) { language = Some (codes "de") }
 abbrev spoken : TreeNode
 spoken =
     node_of (codes "http://e/a")
-    (many (codes "http://e/p") (tagged (codes "x") (codes "de") ∷ tagged (codes "y") (codes "en") ∷ plain (codes "z") ∷ []) ∷ [])
+    (many (codes "http://e/p") (tagged (codes "x") (codes "de") ∷ tagged (codes "y") (codes "en")
+    ∷ plain (codes "z") ∷ []) ∷ [])
 
 pub by_default_language :
     printed (german []) spoken
@@ -140,7 +149,8 @@ pub by_term_language :
 unfolding selection_open xsd_string rdf_lang_string
 by_term_language = refl
 
--- a number without a datatype is itself, save under the coercion `@none`; one with the coercion's datatype is itself, and one with another is a map
+-- a number without a datatype is itself, save under the coercion `@none`; one with the coercion's
+-- datatype is itself, and one with another is a map
 pub scalars_by_coercion :
     printed
     (table_of None (

@@ -1,4 +1,5 @@
--- Compaction of values (JSON-LD 1.1 Processing Algorithms and API, section 6.1.2: value compaction).
+-- Compaction of values (JSON-LD 1.1 Processing Algorithms and API, section 6.1.2: value
+-- compaction).
 use Rattle.std.specs.Prelude.{List, [], ◌∷◌, ◌++◌, ℕ, Bool, true, false, not, ◌&&◌, ◌||◌, Option, Some, None, if◌then◌else◌, is_some}
 use Rattle.lf_rdf.specs.declared.term.Term.{Term}
 use Rattle.lf_rdf.specs.Equality.{text_eq, option_eq}
@@ -54,7 +55,8 @@ language_entry table (Some language) = (short_keyword table at_language, text la
 abbrev pub value_object : TermTable → Plain → Option JsonValue
 value_object table plain = do
   type_part ← datatype_entry table plain.datatype
-  Some (object_of ((short_keyword table at_value, plain.scalar) ∷ type_part ++ language_entry table plain.language))
+  Some (object_of ((short_keyword table at_value, plain.scalar) ∷ type_part
+      ++ language_entry table plain.language))
 
 -- the value is written as its scalar alone
 abbrev pub is_bare : TermTable → Option TermDef → Plain → Bool
@@ -65,7 +67,8 @@ is_bare table term plain =
 
 -- a literal or scalar under a chosen term, or none
 abbrev pub plain_json : TermTable → Option TermDef → Plain → Option JsonValue
-plain_json table term plain = if is_bare table term plain then Some plain.scalar else value_object table plain
+plain_json table term plain =
+    if is_bare table term plain then Some plain.scalar else value_object table plain
 
 -- a compacted id under the coercion `@id` or `@vocab`, and otherwise a map of it
 abbrev pub reference_value : TermTable → Option TermDef → List ℕ → JsonValue
@@ -73,7 +76,8 @@ reference_value table term compacted =
     if coerces_to at_id term || coerces_to at_vocab term then text compacted
     else object_of ((short_keyword table at_id, text compacted) ∷ [])
 
--- a node that has an id alone: with the coercion `@id` or `@vocab` its compacted id, otherwise a map
+-- a node that has an id alone: with the coercion `@id` or `@vocab` its compacted id, otherwise a
+-- map
 abbrev pub reference_json : TermTable → Option TermDef → Term → Option JsonValue
 reference_json table term id = do
   compacted ← short_node table (coerces_to at_vocab term) id

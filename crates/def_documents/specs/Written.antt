@@ -1,4 +1,5 @@
--- The IRIs that a tree is written with: the ids of its nodes and references, its types, its datatypes and its properties.
+-- The IRIs that a tree is written with: the ids of its nodes and references, its types, its
+-- datatypes and its properties.
 use Rattle.std.specs.Prelude.{List, [], ◌∷◌, ℕ, Bool, false, ◌||◌, Option, Some, None}
 use Rattle.lf_rdf.specs.declared.term.Term.{Term}
 use Rattle.lf_rdf.specs.declared.term.Term.TheVariants.{Iri, Blank, Literal}
@@ -34,7 +35,10 @@ default_has test (default.Scalar value datatype language) = datatype_is test dat
 abbrev mutual
   pub node_has : (List ℕ → Bool) → TreeNode → Bool
   node_has test (tree id types graph properties reverses) =
-      some_id_is test id || (types_have test types || (nodes_have test graph || (properties_have test properties || reverses_have test reverses)))
+      some_id_is test id
+      || (types_have test types
+      || (nodes_have test graph
+      || (properties_have test properties || reverses_have test reverses)))
 
   pub nodes_have : (List ℕ → Bool) → TreeNodes → Bool
   nodes_have test no_nodes = false
@@ -42,11 +46,13 @@ abbrev mutual
 
   pub properties_have : (List ℕ → Bool) → TreeProperties → Bool
   properties_have test no_properties = false
-  properties_have test (property iri values rest) = test iri || (entries_have test values || properties_have test rest)
+  properties_have test (property iri values rest) =
+      test iri || (entries_have test values || properties_have test rest)
 
   pub reverses_have : (List ℕ → Bool) → TreeReverses → Bool
   reverses_have test no_reverses = false
-  reverses_have test (reverse iri nodes rest) = test iri || (nodes_have test nodes || reverses_have test rest)
+  reverses_have test (reverse iri nodes rest) =
+      test iri || (nodes_have test nodes || reverses_have test rest)
 
   pub entry_has : (List ℕ → Bool) → TreeEntry → Bool
   entry_has test (node_entry value) = node_has test value

@@ -1,4 +1,5 @@
-//! Laws of compaction, pruning and documents (JSON-LD 1.1 API, section 6; JSON-LD 1.1 Framing, section 4.5).
+//! Laws of compaction, pruning and documents (JSON-LD 1.1 API, section 6; JSON-LD 1.1 Framing,
+//! section 4.5).
 ghost use Rattle.def_documents.specs.Ordered.{CompactedIsOrdered};
 ghost use Rattle.def_documents.specs.Laws.{CountsAddUp, FirstExcessDecides, FirstLimitDecides, ItemsWithinLimit, KeysAreOfEntries, KeysAscend, PruningKeepsItems, PruningKeepsOthers, PruningMayBeIdle, PruningRemovesOnce, RefusedAsConfused, TextWithinLimit};
 
@@ -27,8 +28,8 @@ pub fn pruning_keeps_items()
     ensures { PruningKeepsItems }
 {}
 
-/// A document's only error is IRI confused with prefix, and it comes only where an id, type, datatype or property of its trees
-/// is confused.
+/// A document's only error is IRI confused with prefix, and it comes only where an id, type,
+/// datatype or property of its trees is confused.
 pub fn refused_as_confused()
     ensures { RefusedAsConfused }
 {}

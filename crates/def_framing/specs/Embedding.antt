@@ -14,7 +14,8 @@ use Rattle.def_framing.specs.Parts.{Embedding, graph_part, value_part, default_p
 -- a node is output as a reference: its id alone
 abbrev pub refer : Term → State → Result TreeNode
 refer id state =
-    then (item state) (λ counted after. gives (tree (Some id) [] no_nodes no_properties no_reverses) after)
+    then (item state)
+    (λ counted after. gives (tree (Some id) [] no_nodes no_properties no_reverses) after)
 
 -- what embeds a node that isn't output as a reference
 abbrev pub Descent : Type 0
@@ -25,7 +26,8 @@ abbrev pub no_room : Descent
 no_room graph id frame path state = over Depth
 
 -- the named graph, the properties, the defaults and the reverse properties, in that order
-abbrev pub contents : Views → Embedding → GraphRef → Term → Nested → View → List Place → State → Result TreeNode
+abbrev pub contents :
+    Views → Embedding → GraphRef → Term → Nested → View → List Place → State → Result TreeNode
 contents views self graph id frame view path state =
     then (graph_part views self graph id frame path state)
     (λ nodes with_graph. then (value_part views self graph frame path view.props with_graph)
@@ -37,18 +39,22 @@ contents views self graph id frame view path state =
     (properties_of (values ++ defaults)) (reverses_of reverses))
     after))))
 
--- the node is counted and joins the path and the embedded nodes; it leaves the path with its contents
+-- the node is counted and joins the path and the embedded nodes; it leaves the path with its
+-- contents
 abbrev pub inside : Views → Embedding → Descent
 inside views self graph id frame path state =
     then (item state)
     (λ counted after.
-    contents views self graph id frame (seen id (views.view graph id)) (record { graph = graph; id = id } ∷ path)
+    contents views self graph id frame (seen id (views.view graph id))
+    (record { graph = graph; id = id } ∷ path)
     (entered (record { graph = graph; id = id }) after))
 
 -- a node that isn't embedded free may be output as a reference
 abbrev pub outer : Descent → Embedding
 outer descent graph id frame free path state =
-    choose (not free && as_reference (flags_of frame).embed (record { graph = graph; id = id }) path state) (refer id)
+    choose (not free
+    && as_reference (flags_of frame).embed (record { graph = graph; id = id }) path state)
+    (refer id)
     (descent graph id frame path) state
 
 -- a node is embedded in the room that the path has left

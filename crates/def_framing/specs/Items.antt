@@ -1,4 +1,5 @@
--- The items of a tree: each node object, a reference included, each literal value, list object and default value.
+-- The items of a tree: each node object, a reference included, each literal value, list object and
+-- default value.
 use Rattle.std.specs.Prelude.{ℕ, ◌+◌}
 use Rattle.lf_model.specs.TreeData.{TreeNode, TreeNodes, TreeProperties, TreeReverses, TreeEntry, TreeEntries, tree, no_nodes, node, no_properties, property, no_reverses, reverse, node_entry, literal_entry, list_entry, fallback_entry, empty_fallback, no_entries, entry}
 

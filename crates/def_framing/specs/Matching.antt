@@ -1,4 +1,5 @@
--- Which values a sub-frame accepts and which nodes a frame matches (JSON-LD 1.1 Framing, section 4: frame matching).
+-- Which values a sub-frame accepts and which nodes a frame matches (JSON-LD 1.1 Framing, section 4:
+-- frame matching).
 use Rattle.std.specs.Prelude.{List, [], ◌∷◌, ℕ, Bool, true, false, not, ◌&&◌, ◌||◌, Option, Some, None, is_some}
 use Rattle.std.specs.List.{list_any, list_all}
 use Rattle.lf_rdf.specs.declared.term.Term.{Term}
@@ -45,7 +46,8 @@ id_matches id_test.Any id = true
 id_matches id_test.Never id = false
 id_matches (id_test.OneOf ids) id = among ids id
 
--- the type test matches a node by its types; a type default matches every node, and an absent test is no entry
+-- the type test matches a node by its types; a type default matches every node, and an absent test
+-- is no entry
 abbrev pub types_match : TypeTest → List Term → Bool
 types_match type_test.Absent types = true
 types_match type_test.Any types = not (is_empty types)
@@ -53,7 +55,8 @@ types_match type_test.Never types = is_empty types
 types_match (type_test.OneOf wanted) types = list_any (among wanted) types
 types_match (type_test.Fallback _) types = true
 
--- a property of a frame, as matching sees it: its sub-frame is match-none, has a default, accepts a value
+-- a property of a frame, as matching sees it: its sub-frame is match-none, has a default, accepts a
+-- value
 pub record PropTest : Type 0 where
   pub property : List ℕ
   pub is_none : Bool
@@ -64,7 +67,8 @@ pub record PropTest : Type 0 where
 abbrev pub has_property : View → PropTest → Bool
 has_property view test = not (is_empty (values_under view test.property))
 
--- a property matches a node: match-none where the node lacks it, another where its sub-frame accepts a value
+-- a property matches a node: match-none where the node lacks it, another where its sub-frame
+-- accepts a value
 abbrev pub prop_matches : View → PropTest → Bool
 prop_matches view test =
     (test.is_none && not (has_property view test))
@@ -81,13 +85,16 @@ is_refused view test = test.is_none && has_property view test
 -- every entry matches
 abbrev pub all_match : Flags → List PropTest → Term → View → Bool
 all_match flags tests id view =
-    id_matches flags.ids id && types_match flags.types view.types && list_all (prop_allows view) tests
+    id_matches flags.ids id && types_match flags.types view.types
+    && list_all (prop_allows view) tests
 
--- the properties decide where there is no other entry: one that matches suffices, and without any all is matched
+-- the properties decide where there is no other entry: one that matches suffices, and without any
+-- all is matched
 abbrev pub props_match : List PropTest → View → Bool
 props_match tests view = is_empty tests || list_any (prop_matches view) tests
 
--- the id test decides where there is one, else the type test where there is one, else the properties
+-- the id test decides where there is one, else the type test where there is one, else the
+-- properties
 abbrev pub some_match : Flags → List PropTest → Term → View → Bool
 some_match flags tests id view =
     (tests_id flags.ids && id_matches flags.ids id)
@@ -124,16 +131,19 @@ unfoldable mutual
   pub accepts : Views → GraphRef → Nested → ListValue → Bool
   accepts views graph match_none held = false
   accepts views graph (frame_map flags props _ _ kind) held =
-      kind_accepts views graph kind (λ id. key_matches flags (prop_tests views graph props) id (views.view graph id)) held
+      kind_accepts views graph kind
+      (λ id. key_matches flags (prop_tests views graph props) id (views.view graph id)) held
 
-  -- a wildcard accepts all, a node frame the references to nodes that match it, a value pattern literals,
-  -- and a list pattern a list where it has no item pattern, or one that is wild or accepts an item
+  -- a wildcard accepts all, a node frame the references to nodes that match it, a value pattern
+  -- literals, and a list pattern a list where it has no item pattern, or one that is wild or
+  -- accepts an item
   pub kind_accepts : Views → GraphRef → Kind → (Term → Bool) → ListValue → Bool
   kind_accepts views graph wild matched held = true
   kind_accepts views graph node_frame matched (reference id) = matched id
   kind_accepts views graph node_frame matched (literal _) = false
   kind_accepts views graph node_frame matched (list _) = false
-  kind_accepts views graph (value_pattern pattern) matched (literal term) = accepts_literal pattern term
+  kind_accepts views graph (value_pattern pattern) matched (literal term) =
+      accepts_literal pattern term
   kind_accepts views graph (value_pattern pattern) matched (reference _) = false
   kind_accepts views graph (value_pattern pattern) matched (list _) = false
   kind_accepts views graph list_pattern matched (list _) = true

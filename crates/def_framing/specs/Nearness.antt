@@ -1,4 +1,5 @@
--- The terms and questions near a term for a frame: those that framing the term may speak of (JSON-LD 1.1 Framing, section 4.1).
+-- The terms and questions near a term for a frame: those that framing the term may speak of
+-- (JSON-LD 1.1 Framing, section 4.1).
 use Rattle.std.specs.Prelude.{List, [], ◌∷◌, ◌++◌, ℕ}
 use Rattle.lf_rdf.specs.declared.term.Term.{Term}
 use Rattle.lf_rdf.specs.declared.quad.Quad.{Quad}

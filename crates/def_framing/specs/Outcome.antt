@@ -1,4 +1,5 @@
--- What a frame makes of a term (JSON-LD 1.1 Framing, section 4: the top frame selects nodes of the framed graph).
+-- What a frame makes of a term (JSON-LD 1.1 Framing, section 4: the top frame selects nodes of the
+-- framed graph).
 use Rattle.std.specs.Prelude.{[], ℕ, Bool, true, false, Option, Some, None}
 use Rattle.lf_rdf.specs.declared.term.Term.{Term}
 use Rattle.lf_rdf.specs.declared.question.GraphRef.{GraphRef}
@@ -20,7 +21,8 @@ pub data Outcome : Type 0 where
   matched : TreeNode → Outcome
   past : Limit → Outcome
 
--- the framed graph: the default graph where the frame has `@graph` at its top, else all graphs merged
+-- the framed graph: the default graph where the frame has `@graph` at its top, else all graphs
+-- merged
 abbrev pub framed_graph : Bool → GraphRef
 framed_graph true = Default
 framed_graph false = Merged
@@ -35,12 +37,14 @@ outcome_of_result (over limit) = past limit
 
 -- a key that matches is embedded free, with nothing embedded before and an empty path
 abbrev pub outcome_of_key : Views → Nested → GraphRef → Term → Bool → Outcome
-outcome_of_key views top graph id true = outcome_of_result (embed views depth_limit graph id top true [] at_first)
+outcome_of_key views top graph id true =
+    outcome_of_result (embed views depth_limit graph id top true [] at_first)
 outcome_of_key views top graph id false = no_match
 
 abbrev pub outcome_of_view : Views → Nested → GraphRef → Term → Option View → Outcome
 outcome_of_view views top graph id None = not_key
-outcome_of_view views top graph id (Some view) = outcome_of_key views top graph id (matches views graph top id)
+outcome_of_view views top graph id (Some view) =
+    outcome_of_key views top graph id (matches views graph top id)
 
 -- the outcome of a term by a nested frame
 abbrev pub outcome_in : Views → Nested → GraphRef → Term → Outcome

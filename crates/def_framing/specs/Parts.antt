@@ -17,26 +17,31 @@ use Rattle.def_framing.specs.Matching.{accepts, matches}
 use Rattle.def_framing.specs.Results.{State, Result, gives, then, through, choose, item}
 use Rattle.def_framing.specs.Steps.{enters, graph_frame, sub_for, is_output, item_frame, is_omitted}
 
--- a node of a graph is embedded by a frame, free or not, with the steps of the path and the state before
+-- a node of a graph is embedded by a frame, free or not, with the steps of the path and the state
+-- before
 abbrev pub Embedding : Type 0
 Embedding = GraphRef → Term → Nested → Bool → List Place → State → Result TreeNode
 
 -- one more node of a graph is embedded
 abbrev pub embed_next :
-    Embedding → GraphRef → Nested → Bool → List Place → List TreeNode → Term → State → Result (List TreeNode)
+    Embedding → GraphRef → Nested → Bool → List Place → List TreeNode → Term → State →
+    Result (List TreeNode)
 embed_next self graph frame free path done id state =
     then (self graph id frame free path state) (λ made after. gives (done ++ made ∷ []) after)
 
 -- nodes of one graph are embedded one after another
-abbrev pub embed_all : Embedding → GraphRef → Nested → Bool → List Place → List Term → State → Result (List TreeNode)
-embed_all self graph frame free path ids state = through (embed_next self graph frame free path) [] ids state
+abbrev pub embed_all :
+    Embedding → GraphRef → Nested → Bool → List Place → List Term → State → Result (List TreeNode)
+embed_all self graph frame free path ids state =
+    through (embed_next self graph frame free path) [] ids state
 
 -- the keys of the graph of this name that match its frame
 abbrev pub entered_keys : Views → Term → Nested → List Term
 entered_keys views name sub = filter (matches views (Named name) sub) (views.keys (Named name))
 
 -- the named graph: where it is entered, its keys that match are embedded free in it
-abbrev pub graph_part : Views → Embedding → GraphRef → Term → Nested → List Place → State → Result (List TreeNode)
+abbrev pub graph_part :
+    Views → Embedding → GraphRef → Term → Nested → List Place → State → Result (List TreeNode)
 graph_part views self graph id frame path state =
     choose (enters views graph id frame path)
     (embed_all self (Named id) (graph_frame (within_of frame)) true path
@@ -44,8 +49,10 @@ graph_part views self graph id frame path state =
     (gives []) state
 
 unfoldable mutual
-  -- a value that the sub-frame accepts: a literal as it is, a reference by embedding it, a list with its accepted items
-  pub emit : Views → Embedding → GraphRef → List Place → Nested → ListValue → State → Result TreeEntry
+  -- a value that the sub-frame accepts: a literal as it is, a reference by embedding it, a list
+  -- with its accepted items
+  pub emit :
+      Views → Embedding → GraphRef → List Place → Nested → ListValue → State → Result TreeEntry
   emit views self graph path frame (literal term) state =
       then (item state) (λ counted after. gives (literal_entry term) after)
   emit views self graph path frame (reference id) state =
@@ -56,26 +63,33 @@ unfoldable mutual
       (λ entries after. gives (list_entry (entries_of entries)) after))
 
   -- the values that a frame accepts are output one after another
-  pub emit_all : Views → Embedding → GraphRef → List Place → Nested → List TreeEntry → ListValues → State → Result (List TreeEntry)
+  pub emit_all :
+      Views → Embedding → GraphRef → List Place → Nested → List TreeEntry → ListValues → State →
+      Result (List TreeEntry)
   emit_all views self graph path frame done no_values state = gives done state
   emit_all views self graph path frame done (value first rest) state =
       then
       (choose (accepts views graph frame first)
-      (λ before. then (emit views self graph path frame first before) (λ made after. gives (done ++ made ∷ []) after))
+      (λ before.
+      then (emit views self graph path frame first before)
+      (λ made after. gives (done ++ made ∷ []) after))
       (gives done) state)
       (λ more after. emit_all views self graph path frame more rest after)
 
 -- a property joins those that were output where a value of it was
-abbrev pub with_property : List ℕ → List TreeEntry → List (List ℕ × TreeEntries) → List (List ℕ × TreeEntries)
+abbrev pub with_property :
+    List ℕ → List TreeEntry → List (List ℕ × TreeEntries) → List (List ℕ × TreeEntries)
 with_property property [] done = done
 with_property property (first ∷ rest) done = done ++ (property, entries_of (first ∷ rest)) ∷ []
 
 -- one more property of the node, with the values that its sub-frame accepts
 abbrev pub value_next :
-    Views → Embedding → GraphRef → Nested → List Place → List (List ℕ × TreeEntries) → ViewProperty → State →
+    Views → Embedding → GraphRef → Nested → List Place → List (List ℕ × TreeEntries) →
+    ViewProperty → State →
     Result (List (List ℕ × TreeEntries))
 value_next views self graph frame path done held state =
-    then (emit_all views self graph path (sub_for frame held.property) [] (values_of held.values) state)
+    then (emit_all views self graph path (sub_for frame held.property) [] (values_of held.values)
+    state)
     (λ entries after. gives (with_property held.property entries done) after)
 
 -- the properties: each property of the node that isn't skipped, in order
@@ -83,11 +97,13 @@ abbrev pub value_part :
     Views → Embedding → GraphRef → Nested → List Place → List ViewProperty → State →
     Result (List (List ℕ × TreeEntries))
 value_part views self graph frame path props state =
-    through (value_next views self graph frame path) [] (filter (λ held. is_output frame held.property) props) state
+    through (value_next views self graph frame path) []
+    (filter (λ held. is_output frame held.property) props) state
 
 -- one more default value
 abbrev pub fallback_next : List TreeEntry → DefaultValue → State → Result (List TreeEntry)
-fallback_next done held state = then (item state) (λ counted after. gives (done ++ fallback_entry held ∷ []) after)
+fallback_next done held state =
+    then (item state) (λ counted after. gives (done ++ fallback_entry held ∷ []) after)
 
 -- the default values of a property: null without `@default`, and an empty array for an empty one
 abbrev pub default_entries : Option (List DefaultValue) → State → Result (List TreeEntry)
@@ -114,10 +130,12 @@ default_next done held state =
 abbrev pub default_part :
     Nested → List (List ℕ × TreeEntries) → State → Result (List (List ℕ × TreeEntries))
 default_part frame outputs state =
-    through default_next [] (filter (takes_default frame outputs) (props_list (props_of frame))) state
+    through default_next [] (filter (takes_default frame outputs) (props_list (props_of frame)))
+    state
 
 -- a property of `@reverse` joins those that were output where a node was
-abbrev pub with_reverse : List ℕ → List TreeNode → List (List ℕ × TreeNodes) → List (List ℕ × TreeNodes)
+abbrev pub with_reverse :
+    List ℕ → List TreeNode → List (List ℕ × TreeNodes) → List (List ℕ × TreeNodes)
 with_reverse property [] done = done
 with_reverse property (first ∷ rest) done = done ++ (property, nodes_of (first ∷ rest)) ∷ []
 
@@ -127,7 +145,8 @@ arriving views graph id held = filter (matches views graph held.1) (views.pointi
 
 -- one more reverse property, with the nodes that have this one under it
 abbrev pub reverse_next :
-    Views → Embedding → GraphRef → Term → List Place → List (List ℕ × TreeNodes) → List ℕ × Nested → State →
+    Views → Embedding → GraphRef → Term → List Place → List (List ℕ × TreeNodes) → List ℕ × Nested →
+    State →
     Result (List (List ℕ × TreeNodes))
 reverse_next views self graph id path done held state =
     then (embed_all self graph held.1 false path (arriving views graph id held) state)
@@ -135,6 +154,8 @@ reverse_next views self graph id path done held state =
 
 -- the reverse part: each property of `@reverse`, in order
 abbrev pub reverse_part :
-    Views → Embedding → GraphRef → Term → Nested → List Place → State → Result (List (List ℕ × TreeNodes))
+    Views → Embedding → GraphRef → Term → Nested → List Place → State →
+    Result (List (List ℕ × TreeNodes))
 reverse_part views self graph id frame path state =
-    through (reverse_next views self graph id path) [] (reverses_list (reverse_props_of frame)) state
+    through (reverse_next views self graph id path) [] (reverses_list (reverse_props_of frame))
+    state

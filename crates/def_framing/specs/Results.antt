@@ -5,7 +5,8 @@ use Rattle.lf_model.specs.declared.document.Limit.{Limit}
 use Rattle.lf_model.specs.declared.document.Limit.TheVariants.{TreeItems}
 use Rattle.def_framing.specs.Views.{Place, place_eq}
 
--- the nodes that this tree has embedded already, in order and each once, and how many items were output
+-- the nodes that this tree has embedded already, in order and each once, and how many items were
+-- output
 pub record State : Type 0 where
   pub embedded : List Place
   pub count : ℕ
@@ -22,7 +23,8 @@ then (over limit) next = over limit
 -- one element after another, with what was made so far
 abbrev pub through : {A B : Type 0} → (B → A → State → Result B) → B → List A → State → Result B
 through step done [] state = gives done state
-through step done (first ∷ rest) state = then (step done first state) (λ more later. through step more rest later)
+through step done (first ∷ rest) state =
+    then (step done first state) (λ more later. through step more rest later)
 
 -- one of two, by a test
 abbrev pub choose : {A : Type 0} → Bool → (State → Result A) → (State → Result A) → State → Result A
@@ -48,7 +50,10 @@ is_in places place = list_any (place_eq place) places
 -- a place joins those that were embedded
 abbrev pub entered : Place → State → State
 entered place state =
-    record state { embedded = cond (is_in state.embedded place) state.embedded (state.embedded ++ place ∷ []) }
+    record state {
+      embedded =
+          cond (is_in state.embedded place) state.embedded (state.embedded ++ place ∷ []);
+    }
 
 -- nothing was embedded, and no item was output
 abbrev pub at_first : State

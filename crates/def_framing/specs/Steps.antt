@@ -1,4 +1,5 @@
--- When a node is output as a reference, and when its graph is entered (JSON-LD 1.1 Framing, section 2: the object embed flag and named graphs).
+-- When a node is output as a reference, and when its graph is entered (JSON-LD 1.1 Framing, section
+-- 2: the object embed flag and named graphs).
 use Rattle.std.specs.Prelude.{List, [], ◌∷◌, ℕ, Bool, true, false, not, cond, ◌&&◌, ◌||◌, Option, Some, None, unwrap_or, is_some}
 use Rattle.std.specs.List.{list_any}
 use Rattle.lf_rdf.specs.declared.term.Term.{Term}
@@ -14,7 +15,8 @@ use Rattle.def_datasets.specs.Views.{View}
 use Rattle.def_framing.specs.Views.{Views, Place, graph_eq}
 use Rattle.def_framing.specs.Results.{State, is_in}
 
--- a node that isn't embedded free is output as a reference: always, where it is on the path, or where it was embedded
+-- a node that isn't embedded free is output as a reference: always, where it is on the path, or
+-- where it was embedded
 abbrev pub as_reference : Embed → Place → List Place → State → Bool
 as_reference Never here path state = true
 as_reference Always here path state = is_in path here
@@ -33,10 +35,12 @@ has_graph (in_graph _) = true
 abbrev pub is_outside : List Place → Term → Bool
 is_outside path name = not (list_any (λ step. graph_eq (Named name) step.graph) path)
 
--- the graph that a node names is entered: once on a path, and from the merged graph only where the frame has `@graph`
+-- the graph that a node names is entered: once on a path, and from the merged graph only where the
+-- frame has `@graph`
 abbrev pub enters : Views → GraphRef → Term → Nested → List Place → Bool
 enters views graph id frame path =
-    views.names_graph id && is_outside path id && (has_graph (within_of frame) || not (is_merged graph))
+    views.names_graph id && is_outside path id
+    && (has_graph (within_of frame) || not (is_merged graph))
 
 -- the frame for the nodes of that graph: that of `@graph`, or a wildcard
 abbrev pub graph_frame : Within → Nested
@@ -46,7 +50,8 @@ graph_frame no_graph = wildcard plain
 -- the sub-frame of a property in a list of them
 abbrev pub sub_at : List ℕ → List (List ℕ × Nested) → Option Nested
 sub_at property [] = None
-sub_at property (entry ∷ rest) = cond (text_eq entry.0 property) (Some entry.1) (sub_at property rest)
+sub_at property (entry ∷ rest) =
+    cond (text_eq entry.0 property) (Some entry.1) (sub_at property rest)
 
 -- the sub-frame that a frame states for a property
 abbrev pub stated : Nested → List ℕ → Option Nested
@@ -56,7 +61,8 @@ stated frame property = sub_at property (props_list (props_of frame))
 abbrev pub inherited : Flags → Nested
 inherited flags =
     wildcard
-    (record plain { embed = flags.embed; explicit = flags.explicit; require_all = flags.require_all })
+    (record plain
+    { embed = flags.embed; explicit = flags.explicit; require_all = flags.require_all })
 
 -- the sub-frame by which a property's values are output
 abbrev pub sub_for : Nested → List ℕ → Nested
@@ -72,8 +78,10 @@ item_frame match_none = match_none
 item_frame (frame_map _ _ _ _ (list_pattern_of item)) = item
 item_frame (frame_map _ _ _ _ list_pattern) = wildcard plain
 item_frame (frame_map flags props reverses within wild) = frame_map flags props reverses within wild
-item_frame (frame_map flags props reverses within node_frame) = frame_map flags props reverses within node_frame
-item_frame (frame_map flags props reverses within (value_pattern pattern)) = frame_map flags props reverses within (value_pattern pattern)
+item_frame (frame_map flags props reverses within node_frame) =
+    frame_map flags props reverses within node_frame
+item_frame (frame_map flags props reverses within (value_pattern pattern)) =
+    frame_map flags props reverses within (value_pattern pattern)
 
 -- a node without types takes the frame's type default
 abbrev pub types_by : TypeTest → List Term → List Term

@@ -42,7 +42,8 @@ abbrev pub accepts_datatype : PartTest → List ℕ → Option (List ℕ) → Bo
 accepts_datatype part.Absent datatype language = is_plain datatype language
 accepts_datatype part.Any datatype language = not (is_plain datatype language)
 accepts_datatype part.Never datatype language = is_plain datatype language
-accepts_datatype (part.OneOf scalars) datatype language = not (is_plain datatype language) && lists scalars datatype
+accepts_datatype (part.OneOf scalars) datatype language =
+    not (is_plain datatype language) && lists scalars datatype
 
 -- the part `@language`, by the literal's language
 abbrev pub accepts_language : PartTest → Option (List ℕ) → Bool

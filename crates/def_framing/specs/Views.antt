@@ -11,8 +11,8 @@ use Rattle.lf_rdf.specs.declared.question.GraphRef.TheVariants.{Default, Named, 
 use Rattle.lf_rdf.specs.Equality.{text_eq, term_eq}
 use Rattle.lf_model.specs.ValueData.{ListValue}
 
--- the nodes of each graph: the view of a key, the keys, the keys whose view has a reference under a property,
--- and whether a node names a graph
+-- the nodes of each graph: the view of a key, the keys, the keys whose view has a reference under a
+-- property, and whether a node names a graph
 pub record Views : Type 0 where
   pub view : GraphRef → Term → Option View
   pub keys : GraphRef → List Term
@@ -35,7 +35,8 @@ of_dataset dataset = of_answers (answers_of dataset) (enough dataset)
 -- the values under a property in a list of properties
 abbrev pub values_at : List ℕ → List ViewProperty → List ListValue
 values_at property [] = []
-values_at property (entry ∷ rest) = cond (text_eq entry.property property) entry.values (values_at property rest)
+values_at property (entry ∷ rest) =
+    cond (text_eq entry.property property) entry.values (values_at property rest)
 
 -- the values of a node under a property
 abbrev pub values_under : View → List ℕ → List ListValue

@@ -26,7 +26,8 @@ pub fn path_is_left_alone()
     ensures { PathIsLeftAlone }
 {}
 
-/// With `@once` a node that the tree has embedded is output as a reference, unless it is embedded free.
+/// With `@once` a node that the tree has embedded is output as a reference, unless it is embedded
+/// free.
 pub fn once_is_once()
     ensures { OnceIsOnce }
 {}

@@ -1,4 +1,5 @@
-//! Matching and embedding: which nodes a frame selects, and the trees that it makes of them (JSON-LD 1.1 Framing, section 4).
+//! Matching and embedding: which nodes a frame selects, and the trees that it makes of them
+//! (JSON-LD 1.1 Framing, section 4).
 #![tactic(auto)]
 
 mod laws;

@@ -1,4 +1,5 @@
--- A history is a list of operations. What it tells: the patches, the texts and their bytes, and the frames that are live.
+-- A history is a list of operations. What it tells: the patches, the texts and their bytes, and the
+-- frames that are live.
 use Rattle.std.specs.Prelude.{List, [], ◌∷◌, ◌++◌, ℕ, suc, ◌+◌, length, map, not, if◌then◌else◌, Option, Some, None}
 use Rattle.std.specs.List.{filter, find}
 use Rattle.lf_rdf.specs.declared.quad.Signed.{Signed}
@@ -47,13 +48,15 @@ registered name number text = record { name = name; number = number; text = text
 abbrev pub publish : List ℕ → ℕ → Live → Live
 publish name version frame =
     if text_eq name frame.name
-    then record { name = frame.name; number = frame.number; text = frame.text; published = Some version }
+    then record
+    { name = frame.name; number = frame.number; text = frame.text; published = Some version }
     else frame
 
 -- the live frames after one more entry, where this many registrations were before it
 abbrev pub live_step : ℕ → List Live → Operation → List Live
 live_step count frames (Commit seat patch) = frames
-live_step count frames (Register seat name text) = without name frames ++ registered name (suc count) text ∷ []
+live_step count frames (Register seat name text) =
+    without name frames ++ registered name (suc count) text ∷ []
 live_step count frames (Retire seat name) = without name frames
 live_step count frames (Publish name version) = map (publish name version) frames
 

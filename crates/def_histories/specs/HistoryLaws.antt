@@ -19,13 +19,15 @@ use Rattle.def_histories.specs.Replay.{dataset_at, newest_dataset, notices}
 -- what a legal history begins with is legal
 abbrev pub PrefixIsLegal : Type 0
 PrefixIsLegal =
-    (accepts : List ℕ → Bool) (history later : List Operation) → IsLegal accepts (history ++ later) → IsLegal accepts history
+    (accepts : List ℕ → Bool) (history later : List Operation) →
+    IsLegal accepts (history ++ later) → IsLegal accepts history
 
 -- a legal history with an allowed entry is legal
 abbrev pub AllowedIsLegal : Type 0
 AllowedIsLegal =
     (accepts : List ℕ → Bool) (history : List Operation) (entry : Operation)
-    → IsLegal accepts history → IsAllowed accepts history entry → IsLegal accepts (history ++ entry ∷ [])
+    → IsLegal accepts history → IsAllowed accepts history entry →
+    IsLegal accepts (history ++ entry ∷ [])
 
 -- what follows a version doesn't change its dataset
 abbrev pub DatasetsStay : Type 0
@@ -33,27 +35,36 @@ DatasetsStay =
     (history later : List Operation) (version : ℕ) → version ≤ commits history
     → dataset_at (history ++ later) version ≡ dataset_at history version
 
--- a commit makes one version, of the dataset after its patch, also where that is the dataset before it
+-- a commit makes one version, of the dataset after its patch, also where that is the dataset before
+-- it
 abbrev pub CommitMakesVersion : Type 0
 CommitMakesVersion =
     (history : List Operation) (seat : ℕ) (patch : Patch)
     → (commits (history ++ Commit seat patch ∷ []) ≡ suc (commits history))
-    × (newest_dataset (history ++ Commit seat patch ∷ []) ≡ after (newest_dataset history) patch.lines)
+    × (newest_dataset (history ++ Commit seat patch ∷ [])
+    ≡ after (newest_dataset history) patch.lines)
 
 -- two patches with the same lines, in whatever order and however often, make the same version
 abbrev pub PatchLinesInAnyOrder : Type 0
 PatchLinesInAnyOrder =
     (history : List Operation) (seat seat2 : ℕ) (one two : Patch)
     → ((s : Signed) → has_line one.lines s ≡ has_line two.lines s)
-    → newest_dataset (history ++ Commit seat one ∷ []) ≡ newest_dataset (history ++ Commit seat2 two ∷ [])
+    →
+    newest_dataset (history ++ Commit seat one ∷ [])
+    ≡ newest_dataset (history ++ Commit seat2 two ∷ [])
 
--- two patch texts with the same lines, in whatever order and however often, make the same version; empty lines don't count
+-- two patch texts with the same lines, in whatever order and however often, make the same version;
+-- empty lines don't count
 abbrev pub PatchTextsInAnyOrder : Type 0
 PatchTextsInAnyOrder =
     (history : List Operation) (seat seat2 : ℕ) (one two : Patch) (text text2 : List ℕ)
     → IsPatchText text one.lines → IsPatchText text2 two.lines
-    → ((line : List ℕ) → line ≢ [] → has text_eq (lines_of text) line ≡ has text_eq (lines_of text2) line)
-    → newest_dataset (history ++ Commit seat one ∷ []) ≡ newest_dataset (history ++ Commit seat2 two ∷ [])
+    →
+    ((line : List ℕ) → line ≢ [] →
+    has text_eq (lines_of text) line ≡ has text_eq (lines_of text2) line)
+    →
+    newest_dataset (history ++ Commit seat one ∷ [])
+    ≡ newest_dataset (history ++ Commit seat2 two ∷ [])
 
 -- an entry that commits no patch makes no version
 abbrev pub OnlyCommitsMakeVersions : Type 0
@@ -76,23 +87,29 @@ TextNumbersRise =
 abbrev pub LiveFramesStep : Type 0
 LiveFramesStep =
     (history : List Operation) (entry : Operation)
-    → live_frames (history ++ entry ∷ []) ≡ live_step (registrations history) (live_frames history) entry
+    →
+    live_frames (history ++ entry ∷ [])
+    ≡ live_step (registrations history) (live_frames history) entry
 
 -- a name is live from its registration on
 abbrev pub LiveOnceRegistered : Type 0
 LiveOnceRegistered =
     (history : List Operation) (seat : ℕ) (name text : List ℕ)
-    → live (history ++ Register seat name text ∷ []) name ≡ Some (registered name (text_number history) text)
+    →
+    live (history ++ Register seat name text ∷ []) name
+    ≡ Some (registered name (text_number history) text)
 
 -- and no longer once it is retired
 abbrev pub GoneOnceRetired : Type 0
 GoneOnceRetired =
-    (history : List Operation) (seat : ℕ) (name : List ℕ) → live (history ++ Retire seat name ∷ []) name ≡ None
+    (history : List Operation) (seat : ℕ) (name : List ℕ) →
+    live (history ++ Retire seat name ∷ []) name ≡ None
 
 -- registrations and retirements of other names don't count, nor do commits
 abbrev pub OthersStayLive : Type 0
 OthersStayLive =
-    (history : List Operation) (seat : ℕ) (name other text : List ℕ) (patch : Patch) → text_eq name other ≡ false
+    (history : List Operation) (seat : ℕ) (name other text : List ℕ) (patch : Patch) →
+    text_eq name other ≡ false
     → (live (history ++ Register seat other text ∷ []) name ≡ live history name)
     × (live (history ++ Retire seat other ∷ []) name ≡ live history name)
     × (live (history ++ Commit seat patch ∷ []) name ≡ live history name)
@@ -108,19 +125,23 @@ registers name (Publish other version) = false
 abbrev pub AbsentUntilRegistered : Type 0
 AbsentUntilRegistered =
     (history later : List Operation) (name : List ℕ) → live history name ≡ None
-    → IsTrue (list_all (λ entry. not (registers name entry)) later) → live (history ++ later) name ≡ None
+    → IsTrue (list_all (λ entry. not (registers name entry)) later) →
+    live (history ++ later) name ≡ None
 
 -- what is published of a live frame is of a version that was committed
 abbrev pub PublishedWasCommitted : Type 0
 PublishedWasCommitted =
-    (accepts : List ℕ → Bool) (history : List Operation) (name : List ℕ) (frame : Live) (version : ℕ)
-    → IsLegal accepts history → live history name ≡ Some frame → frame.published ≡ Some version → version ≤ commits history
+    (accepts : List ℕ → Bool) (history : List Operation) (name : List ℕ) (frame : Live)
+    (version : ℕ)
+    → IsLegal accepts history → live history name ≡ Some frame → frame.published ≡ Some version →
+    version ≤ commits history
 
 -- a frame that is live under a name has that name, which is one of a frame
 abbrev pub LiveIsNamed : Type 0
 LiveIsNamed =
     (accepts : List ℕ → Bool) (history : List Operation) (name : List ℕ) (frame : Live)
-    → IsLegal accepts history → live history name ≡ Some frame → (frame.name ≡ name) × IsTrue (is_frame_name name)
+    → IsLegal accepts history → live history name ≡ Some frame →
+    (frame.name ≡ name) × IsTrue (is_frame_name name)
 
 -- an entry neither registers the name anew nor retires it
 abbrev pub keeps : List ℕ → Operation → Bool
@@ -132,7 +153,8 @@ keeps name (Publish other version) = true
 -- the versions that entries publish under a name, in order
 abbrev pub versions_under : List ℕ → List Operation → List ℕ
 versions_under name entries =
-    map (λ (notice : Notice). notice.version) (filter (λ (notice : Notice). text_eq notice.frame name) (notices entries))
+    map (λ (notice : Notice). notice.version)
+    (filter (λ (notice : Notice). text_eq notice.frame name) (notices entries))
 
 -- the last of some versions, and where there is none the one before them
 abbrev pub last_after : Option ℕ → List ℕ → Option ℕ
@@ -147,6 +169,8 @@ with_published frame version =
 -- what is published under a live name is its last publication after its registration
 abbrev pub PublishedIsLast : Type 0
 PublishedIsLast =
-    (history later : List Operation) (seat : ℕ) (name text : List ℕ) → IsTrue (list_all (keeps name) later)
+    (history later : List Operation) (seat : ℕ) (name text : List ℕ) →
+    IsTrue (list_all (keeps name) later)
     → live (history ++ Register seat name text ∷ later) name
-    ≡ Some (with_published (registered name (text_number history) text) (last_after None (versions_under name later)))
+    ≡ Some (with_published (registered name (text_number history) text)
+    (last_after None (versions_under name later)))

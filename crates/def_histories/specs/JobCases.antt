@@ -10,14 +10,26 @@ is_all text = text ≡ all
 
 -- a board of version 1 that is to reach version 2
 abbrev pub onward : Job
-onward = record { name = f; number = 1; board = Some (statement.lines ∷ []); target = statement.lines ∷ nothing.lines ∷ [] }
+onward = record {
+  name = f;
+  number = 1;
+  board = Some (statement.lines ∷ []);
+  target = statement.lines ∷ nothing.lines ∷ [];
+}
 
 pub onward_fits : Fits is_all published onward
 onward_fits = record {
   text = all;
   board = (nothing.lines ∷ [], refl);
   target = ([], refl);
-  registered = record { before = []; seat = 1; later = Commit 1 statement ∷ Publish f 1 ∷ Commit 2 nothing ∷ Publish f 2 ∷ []; stands = refl; numbered = refl };
+  registered =
+      record {
+        before = [];
+        seat = 1;
+        later = Commit 1 statement ∷ Publish f 1 ∷ Commit 2 nothing ∷ Publish f 2 ∷ [];
+        stands = refl;
+        numbered = refl;
+      };
   gives = refl;
 }
 
@@ -30,7 +42,14 @@ older_fits = record {
   text = all;
   board = tt;
   target = ([], refl);
-  registered = record { before = []; seat = 1; later = Register 1 g all ∷ Publish f 0 ∷ Register 2 f other ∷ []; stands = refl; numbered = refl };
+  registered =
+      record {
+        before = [];
+        seat = 1;
+        later = Register 1 g all ∷ Publish f 0 ∷ Register 2 f other ∷ [];
+        stands = refl;
+        numbered = refl;
+      };
   gives = refl;
 }
 
@@ -42,6 +61,12 @@ newer_fits = record {
   text = other;
   board = tt;
   target = ([], refl);
-  registered = record { before = Register 1 f all ∷ Register 1 g all ∷ Publish f 0 ∷ []; seat = 2; later = []; stands = refl; numbered = refl };
+  registered = record {
+    before = Register 1 f all ∷ Register 1 g all ∷ Publish f 0 ∷ [];
+    seat = 2;
+    later = [];
+    stands = refl;
+    numbered = refl;
+  };
   gives = refl;
 }

@@ -7,8 +7,8 @@ use Rattle.def_histories.specs.declared.operation.Operation.TheVariants.{Registe
 use Rattle.def_histories.specs.History.{patches, commits, registrations}
 use Rattle.def_histories.specs.Replay.{dataset_at}
 
--- What a job tells: its frame's name and text number, the commits of its board's version, where it has one, and those of the
--- version that it is to reach.
+-- What a job tells: its frame's name and text number, the commits of its board's version, where it
+-- has one, and those of the version that it is to reach.
 pub record Job : Type 0 where
   pub name : List ℕ
   pub number : ℕ
@@ -25,7 +25,8 @@ IsPrefixIfSome None all = Unit {0}
 IsPrefixIfSome (Some first) all = IsPrefix first all
 
 -- the registration of the history with this text number, counted from 1, has this name and text
-pub record IsRegistered (history : List Operation) (text_number : ℕ) (name text : List ℕ) : Type 0 where
+pub record IsRegistered (history : List Operation) (text_number : ℕ) (name text : List ℕ) :
+    Type 0 where
   pub before : List Operation
   pub seat : ℕ
   pub later : List Operation
@@ -44,17 +45,21 @@ pub record Fits (Gives : List ℕ → Type 0) (history : List Operation) (job : 
 abbrev pub FittingJobsFitOn : Type 0
 FittingJobsFitOn =
     (gives : List ℕ → Bool) (history later : List Operation) (job : Job)
-    → Fits (λ text. IsTrue (gives text)) history job → Fits (λ text. IsTrue (gives text)) (history ++ later) job
+    → Fits (λ text. IsTrue (gives text)) history job →
+    Fits (λ text. IsTrue (gives text)) (history ++ later) job
 
 -- a text number is that of one registration
 abbrev pub TextNumbersAreOne : Type 0
 TextNumbersAreOne =
     (history : List Operation) (text_number : ℕ) (name name2 text text2 : List ℕ)
-    → IsRegistered history text_number name text → IsRegistered history text_number name2 text2 → (name ≡ name2) × (text ≡ text2)
+    → IsRegistered history text_number name text → IsRegistered history text_number name2 text2 →
+    (name ≡ name2) × (text ≡ text2)
 
 -- the board of a job that fits is of a version of the history, under that version's number
 abbrev pub FittingBoardsAreVersions : Type 0
 FittingBoardsAreVersions =
     (gives : List ℕ → Bool) (history : List Operation) (job : Job) (board : List (List Signed))
     → Fits (λ text. IsTrue (gives text)) history job → job.board ≡ Some board
-    → (length board ≤ commits history) × (at_version board (length board) ≡ dataset_at history (length board))
+    →
+    (length board ≤ commits history)
+    × (at_version board (length board) ≡ dataset_at history (length board))

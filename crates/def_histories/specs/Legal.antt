@@ -1,6 +1,8 @@
--- Legal histories: each entry is allowed after the entries before it. Which texts are accepted as frames is a test that is given.
+-- Legal histories: each entry is allowed after the entries before it. Which texts are accepted as
+-- frames is a test that is given.
 use Rattle.std.specs.Prelude.{◌≡◌, ◌≢◌, ◌≤◌, ◌<◌, List, ◌∷◌, ◌++◌, ℕ, nat_eq, nat_le, ◌+◌, length, Bool, ◌&&◌, ◌||◌, IsTrue, IsSome, Option, Some, None}
 use Rattle.std.specs.List.{list_all}
+use Rattle.lf_base.specs.Ascii as ch
 use Rattle.def_datasets.specs.Dataset.{after}
 use Rattle.def_histories.specs.declared.live.Live.{Live}
 use Rattle.def_histories.specs.declared.operation.Operation.{Operation}
@@ -40,11 +42,12 @@ most_name = 64
 abbrev pub is_name_byte : ℕ → Bool
 is_name_byte b =
     (nat_le 65 b && nat_le b 90) || (nat_le 97 b && nat_le b 122) || (nat_le 48 b && nat_le b 57)
-    || nat_eq b 95 || nat_eq b 45
+    || nat_eq b ch.underscore || nat_eq b ch.hyphen
 
 -- the name of a frame
 abbrev pub is_frame_name : List ℕ → Bool
-is_frame_name name = nat_le 1 (length name) && nat_le (length name) most_name && list_all is_name_byte name
+is_frame_name name =
+    nat_le 1 (length name) && nat_le (length name) most_name && list_all is_name_byte name
 
 -- the text that is live under a name
 abbrev pub text_of : Option Live → Option (List ℕ)
@@ -71,7 +74,8 @@ pub record IsCommit (history : List Operation) (bytes : ℕ) (quads : ℕ) : Typ
   pub held : quads ≤ most_quads
 
 -- a text may be registered under a name after the history
-pub record IsRegistration (accepts : List ℕ → Bool) (history : List Operation) (name text : List ℕ) : Type 0 where
+pub record IsRegistration (accepts : List ℕ → Bool) (history : List Operation) (name text : List ℕ)
+    : Type 0 where
   pub named : IsTrue (is_frame_name name)
   pub short : length text ≤ most_frame_bytes
   pub framed : IsTrue (accepts text)
@@ -86,7 +90,8 @@ IsAllowed accepts history (Commit seat patch) =
     IsCommit history patch.bytes (length (after (newest_dataset history) patch.lines))
 IsAllowed accepts history (Register seat name text) = IsRegistration accepts history name text
 IsAllowed accepts history (Retire seat name) = IsSome (live history name)
-IsAllowed accepts history (Publish name version) = (version ≤ commits history) × MayPublish version (live history name)
+IsAllowed accepts history (Publish name version) =
+    (version ≤ commits history) × MayPublish version (live history name)
 
 -- each entry is allowed after those before it
 abbrev pub IsLegal : (List ℕ → Bool) → List Operation → Type 0

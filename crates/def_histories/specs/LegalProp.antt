@@ -16,12 +16,17 @@ may_publish-prop : (version : ℕ) (frame : Option Live) → IsProp (MayPublish 
 may_publish-prop version None = hlevel
 may_publish-prop version (Some frame) = is_newer-prop version frame.published
 
-pub is_allowed-prop : (accepts : List ℕ → Bool) (history : List Operation) (entry : Operation) → IsProp (IsAllowed accepts history entry)
+pub is_allowed-prop :
+    (accepts : List ℕ → Bool) (history : List Operation) (entry : Operation) →
+    IsProp (IsAllowed accepts history entry)
 is_allowed-prop accepts history (Commit seat patch) = hlevel le_prop
 is_allowed-prop accepts history (Register seat name text) = hlevel (le_prop, Bool-set)
 is_allowed-prop accepts history (Retire seat name) = hlevel Bool-set
-is_allowed-prop accepts history (Publish name version) = ×_prop le_prop (may_publish-prop version (live history name))
+is_allowed-prop accepts history (Publish name version) =
+    ×_prop le_prop (may_publish-prop version (live history name))
 
-pub is_legal-prop : (accepts : List ℕ → Bool) (history : List Operation) → IsProp (IsLegal accepts history)
+pub is_legal-prop :
+    (accepts : List ℕ → Bool) (history : List Operation) → IsProp (IsLegal accepts history)
 is_legal-prop accepts history = λ one two. λ i. λ before entry rest stands.
-    is_allowed-prop accepts before entry (one before entry rest stands) (two before entry rest stands) i
+    is_allowed-prop accepts before entry (one before entry rest stands)
+    (two before entry rest stands) i

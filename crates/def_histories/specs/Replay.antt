@@ -1,4 +1,5 @@
--- Replaying a history: the datasets of its versions (RDF 1.1 Concepts, section 4) and the publications that it tells.
+-- Replaying a history: the datasets of its versions (RDF 1.1 Concepts, section 4) and the
+-- publications that it tells.
 use Rattle.std.specs.Prelude.{List, [], ◌∷◌, ℕ}
 use Rattle.lf_rdf.specs.declared.quad.Quad.{Quad}
 use Rattle.lf_model.specs.declared.desk.Notice.{Notice}

@@ -24,7 +24,8 @@ abbrev pub other : List ℕ
 other = codes "{}\n"
 
 abbrev pub frame : List ℕ → ℕ → List ℕ → Option ℕ → Live
-frame name number text published = record { name = name; number = number; text = text; published = published }
+frame name number text published =
+    record { name = name; number = number; text = text; published = published }
 
 -- registered again with another text: the name has the next text number and nothing published
 abbrev pub again : List Operation
@@ -51,7 +52,12 @@ retired = refl
 
 -- published at version 1, and then at version 2
 abbrev pub quad : Quad
-quad = record { subject = Iri (codes "http://e/a"); predicate = Iri (codes "http://e/p"); object = Iri (codes "http://e/b"); graph = None }
+quad = record {
+  subject = Iri (codes "http://e/a");
+  predicate = Iri (codes "http://e/p");
+  object = Iri (codes "http://e/b");
+  graph = None;
+}
 
 abbrev pub statement : Patch
 statement = record { lines = record { add = true; quad = quad } ∷ []; bytes = 38 }
@@ -60,7 +66,8 @@ abbrev pub nothing : Patch
 nothing = record { lines = []; bytes = 0 }
 
 abbrev pub published : List Operation
-published = Register 1 f all ∷ Commit 1 statement ∷ Publish f 1 ∷ Commit 2 nothing ∷ Publish f 2 ∷ []
+published =
+    Register 1 f all ∷ Commit 1 statement ∷ Publish f 1 ∷ Commit 2 nothing ∷ Publish f 2 ∷ []
 
 pub published_live : live published f ≡ Some (frame f 1 all (Some 2))
 published_live = refl
@@ -78,14 +85,24 @@ first_dataset = refl
 -- the quad `<http://e/a> <http://e/p> "x" .`
 abbrev pub plain : Quad
 plain =
-    record { subject = Iri (codes "http://e/a"); predicate = Iri (codes "http://e/p"); object = Literal (codes "x") xsd_string None; graph = None }
+    record {
+      subject = Iri (codes "http://e/a");
+      predicate = Iri (codes "http://e/p");
+      object = Literal (codes "x") xsd_string None;
+      graph = None;
+    }
 
 abbrev pub added : Patch
 added = record { lines = record { add = true; quad = plain } ∷ []; bytes = 32 }
 
 -- its deletion, and then its addition
 abbrev pub put_back : Patch
-put_back = record { lines = record { add = false; quad = plain } ∷ record { add = true; quad = plain } ∷ []; bytes = 68 }
+put_back =
+    record {
+      lines =
+          record { add = false; quad = plain } ∷ record { add = true; quad = plain } ∷ [];
+      bytes = 68;
+    }
 
 -- that patch and the empty one make a version each, with the same quad
 abbrev pub idle : List Operation
@@ -115,11 +132,14 @@ pub name_of_one : is_frame_name (codes "a") ≡ true
 unfolding most_name
 name_of_one = refl
 
-pub name_of_64 : is_frame_name (codes "0123456789_ABCDEFGHIJKLMNOPQRSTUVWXYZ-abcdefghijklmnopqrstuvwxyz") ≡ true
+pub name_of_64 :
+    is_frame_name (codes "0123456789_ABCDEFGHIJKLMNOPQRSTUVWXYZ-abcdefghijklmnopqrstuvwxyz") ≡ true
 unfolding most_name
 name_of_64 = refl
 
-pub name_of_65 : is_frame_name (codes "0123456789_ABCDEFGHIJKLMNOPQRSTUVWXYZ-abcdefghijklmnopqrstuvwxyz0") ≡ false
+pub name_of_65 :
+    is_frame_name (codes "0123456789_ABCDEFGHIJKLMNOPQRSTUVWXYZ-abcdefghijklmnopqrstuvwxyz0")
+    ≡ false
 unfolding most_name
 name_of_65 = refl
 

@@ -67,7 +67,8 @@ pub fn gone_once_retired()
     ensures { GoneOnceRetired }
 {}
 
-/// Registrations and retirements of other names don't change what is live under a name, nor do commits.
+/// Registrations and retirements of other names don't change what is live under a name, nor do
+/// commits.
 #[tactic(auto, using(crate::proofs::LiveProofs::others_stay_live))]
 pub fn others_stay_live()
     ensures { OthersStayLive }

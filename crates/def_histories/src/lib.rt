@@ -1,4 +1,5 @@
-//! Histories: the operations of a state in order, which of them are legal, and what replaying them gives.
+//! Histories: the operations of a state in order, which of them are legal, and what replaying them
+//! gives.
 #![tactic(auto)]
 
 mod laws;

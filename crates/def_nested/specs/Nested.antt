@@ -1,4 +1,5 @@
--- Nested frames (JSON-LD 1.1 Framing, section 4.1: a frame is a map whose properties hold sub-frames).
+-- Nested frames (JSON-LD 1.1 Framing, section 4.1: a frame is a map whose properties hold
+-- sub-frames).
 use Rattle.std.specs.Prelude.{List, [], ◌∷◌, ℕ, Bool, false, Option, None}
 use Rattle.lf_model.specs.declared.frame.IdTest.{IdTest}
 use Rattle.lf_model.specs.declared.frame.IdTest.TheVariants as id_test
@@ -40,7 +41,8 @@ mutual
     no_graph : Within
     in_graph : Nested → Within
 
-  -- what a map is: a wildcard, a node frame, a value pattern, or a list pattern with or without an item pattern
+  -- what a map is: a wildcard, a node frame, a value pattern, or a list pattern with or without an
+  -- item pattern
   pub data Kind : Type 0 where
     wild : Kind
     node_frame : Kind

@@ -1,4 +1,5 @@
--- The nested frame that a table of numbered maps stands for: a map names its sub-frames by larger numbers.
+-- The nested frame that a table of numbered maps stands for: a map names its sub-frames by larger
+-- numbers.
 use Rattle.std.specs.Prelude.{List, [], ◌∷◌, ℕ, ◌+◌, Bool, true, false, nat_eq, nat_lt, Option, Some, None}
 use Rattle.lf_model.specs.declared.frame.Frame.{Frame}
 use Rattle.lf_model.specs.declared.frame.FrameNode.{FrameNode}
@@ -52,7 +53,8 @@ row_flags row =
 -- the nested frame of one map, by what its numbers stand for
 abbrev pub build : Numbered → FrameNode → Nested
 build sub row =
-    frame_map (row_flags row) (build_props sub row.props) (build_reverses sub row.reverse) (build_within sub row.graph)
+    frame_map (row_flags row) (build_props sub row.props) (build_reverses sub row.reverse)
+    (build_within sub row.graph)
     (build_kind sub row.kind)
 
 -- a number stands for something where the test says so

@@ -1,4 +1,5 @@
-//! The nested frame that a table of numbered frame maps stands for (JSON-LD 1.1 Framing, section 4.1).
+//! The nested frame that a table of numbered frame maps stands for (JSON-LD 1.1 Framing, section
+//! 4.1).
 #![tactic(auto)]
 
 mod laws;

@@ -15,23 +15,34 @@ any_iris = record { iri = λ iri rest. true; escape = λ text rest. true }
 
 -- Of a line that goes on with as many characters: an IRI that ends before them is absolute.
 abbrev pub absolute_before : ℕ → Allowed
-absolute_before more = record { iri = λ iri rest. is_absolute iri || nat_lt (length rest) more; escape = λ text rest. true }
+absolute_before more = record
+    { iri = λ iri rest. is_absolute iri || nat_lt (length rest) more; escape = λ text rest. true }
 
--- Of a line that goes on with as many characters: an escape that begins before them ends before them.
+-- Of a line that goes on with as many characters: an escape that begins before them ends before
+-- them.
 abbrev pub whole_before : ℕ → Allowed
-whole_before more = record { iri = λ iri rest. true; escape = λ text rest. nat_le (length text) more || nat_le more (length rest) }
+whole_before more = record {
+  iri = λ iri rest. true;
+  escape = λ text rest. nat_le (length text) more || nat_le more (length rest);
+}
 
--- These characters begin a line of the grammar that allows so much of a line that goes on with a number of characters.
+-- These characters begin a line of the grammar that allows so much of a line that goes on with a
+-- number of characters.
 abbrev pub Begins : (ℕ → Allowed) → List ℕ → Type 0
-Begins allowed front = (more : List ℕ) × (stated : Option Signed) × IsLineOf (allowed (length more)) (front ++ more) stated
+Begins allowed front = (more : List ℕ) × (stated : Option Signed)
+    × IsLineOf (allowed (length more)) (front ++ more) stated
 
--- The longest front of the characters that begins a line in which relative IRIs are allowed is as long.
+-- The longest front of the characters that begins a line in which relative IRIs are allowed is as
+-- long.
 pub record IsLongestFront (characters : List ℕ) (len : ℕ) : Type 0 where
   pub within : len ≤ length characters
   pub begins : Begins (λ more. any_iris) (take len characters)
-  pub longest : (longer : ℕ) → longer ≤ length characters → Begins (λ more. any_iris) (take longer characters) → longer ≤ len
+  pub longest :
+      (longer : ℕ) → longer ≤ length characters →
+      Begins (λ more. any_iris) (take longer characters) → longer ≤ len
 
--- An IRI that ends in the front is relative: it begins no line whose IRIs that end in it are absolute.
+-- An IRI that ends in the front is relative: it begins no line whose IRIs that end in it are
+-- absolute.
 abbrev pub HasRelativeIri : List ℕ → Type 0
 HasRelativeIri front = ¬ (Begins absolute_before front)
 
@@ -53,7 +64,8 @@ HasFault bytes kind =
     (characters : List ℕ) × IsEncoded bytes characters
     × ((len : ℕ) × IsLongestFront characters len × IsFault (take len characters) kind)
 
--- What is wrong with a line that isn't in the grammar: its length is tried first, then whether it is UTF-8.
+-- What is wrong with a line that isn't in the grammar: its length is tried first, then whether it
+-- is UTF-8.
 abbrev pub IsKind : List ℕ → LineKind → Type 0
 IsKind bytes LineTooLong = line_limit < length bytes
 IsKind bytes NotUtf8 = (length bytes ≤ line_limit) × ¬ (IsUtf8 bytes)

@@ -23,7 +23,8 @@ is_blank c = nat_eq c ch.space || nat_eq c ch.tab
 
 -- a letter, a digit, `+`, `-` or `.`
 abbrev pub is_scheme_char : ℕ → Bool
-is_scheme_char c = is_letter c || is_digit c || nat_eq c ch.plus || nat_eq c ch.hyphen || nat_eq c ch.dot
+is_scheme_char c =
+    is_letter c || is_digit c || nat_eq c ch.plus || nat_eq c ch.hyphen || nat_eq c ch.dot
 
 -- characters of a scheme, and `:`
 abbrev pub ends_scheme : List ℕ → Bool
@@ -39,8 +40,10 @@ is_absolute (c ∷ rest) = is_letter c && ends_scheme rest
 -- `"`, `<`, `>`, the backslash, `^`, the backquote, `{`, `|` and `}`
 abbrev pub is_delimiter : ℕ → Bool
 is_delimiter c =
-    nat_eq c ch.quote || nat_eq c ch.less || nat_eq c ch.greater || nat_eq c ch.backslash || nat_eq c ch.caret
-    || nat_eq c ch.grave || nat_eq c ch.opening_brace || nat_eq c ch.bar || nat_eq c ch.closing_brace
+    nat_eq c ch.quote || nat_eq c ch.less || nat_eq c ch.greater || nat_eq c ch.backslash
+    || nat_eq c ch.caret
+    || nat_eq c ch.grave || nat_eq c ch.opening_brace || nat_eq c ch.bar
+    || nat_eq c ch.closing_brace
 
 -- a character that an IRI may hold: above U+0020 and no delimiter
 -- IRIREF ::= '<' ([^#x00-#x20<>"{}|^`\] | UCHAR)* '>'
@@ -64,7 +67,8 @@ is_pn_chars_u c = is_pn_chars_base c || nat_eq c ch.underscore || nat_eq c ch.co
 -- PN_CHARS ::= PN_CHARS_U | '-' | [0-9] | #x00B7 | [#x0300-#x036F] | [#x203F-#x2040]
 abbrev pub is_pn_chars : ℕ → Bool
 is_pn_chars c =
-    is_pn_chars_u c || nat_eq c ch.hyphen || is_digit c || nat_eq c 0xB7 || is_between 0x300 0x36F c || is_between 0x203F 0x2040 c
+    is_pn_chars_u c || nat_eq c ch.hyphen || is_digit c || nat_eq c 0xB7 || is_between 0x300 0x36F c
+    || is_between 0x203F 0x2040 c
 
 -- PN_CHARS or a dot
 abbrev pub is_label_char : ℕ → Bool
@@ -79,12 +83,13 @@ ends_well c (next ∷ rest) = ends_well next rest
 -- BLANK_NODE_LABEL ::= '_:' (PN_CHARS_U | [0-9]) ((PN_CHARS | '.')* PN_CHARS)?
 abbrev pub is_label : List ℕ → Bool
 is_label [] = false
-is_label (c ∷ rest) = (is_pn_chars_u c || is_digit c) && list_all is_label_char rest && ends_well c rest
+is_label (c ∷ rest) =
+    (is_pn_chars_u c || is_digit c) && list_all is_label_char rest && ends_well c rest
 
 -- ---- language tags
 
--- Letters, also digits where they are allowed, and `-` where no character is needed before it. Behind a `-` a character is
--- needed, and digits are allowed.
+-- Letters, also digits where they are allowed, and `-` where no character is needed before it.
+-- Behind a `-` a character is needed, and digits are allowed.
 abbrev pub is_tag_rest : Bool → Bool → List ℕ → Bool
 is_tag_rest needed digits [] = not needed
 is_tag_rest needed digits (c ∷ rest) =
@@ -104,7 +109,8 @@ lower = map to_ascii_lowercase
 -- a character that may stand raw in a string
 -- STRING_LITERAL_QUOTE ::= '"' ([^#x22#x5C#xA#xD] | ECHAR | UCHAR)* '"'
 abbrev pub is_string_char : ℕ → Bool
-is_string_char c = not (nat_eq c ch.quote) && not (nat_eq c ch.backslash) && not (nat_eq c ch.line_feed) && not (nat_eq c ch.carriage_return)
+is_string_char c = not (nat_eq c ch.quote) && not (nat_eq c ch.backslash)
+    && not (nat_eq c ch.line_feed) && not (nat_eq c ch.carriage_return)
 
 -- the character that the backslash and this one stand for
 -- ECHAR ::= '\' [tbnrf"'\]

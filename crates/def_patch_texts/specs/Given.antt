@@ -24,7 +24,8 @@ pub record IsGivenLabel (label : List ℕ) : Type 0 where
 -- the datatype of a literal and its language, which is in lower case
 abbrev pub IsGivenType : List ℕ → Option (List ℕ) → Type 0
 IsGivenType datatype None = IsGivenIri datatype
-IsGivenType datatype (Some language) = (datatype ≡ rdf_lang_string) × IsTrue (is_tag language) × (lower language ≡ language)
+IsGivenType datatype (Some language) =
+    (datatype ≡ rdf_lang_string) × IsTrue (is_tag language) × (lower language ≡ language)
 
 abbrev pub IsGivenTerm : Term → Type 0
 IsGivenTerm (Iri iri) = IsGivenIri iri

@@ -16,27 +16,33 @@ use Rattle.def_patch_texts.specs.WorkedCases.{third_line_relative, escaped_space
 
 -- A text states at most one list of signed quads.
 abbrev pub OneList : Type 0
-OneList = (text : List ℕ) (signed others : List Signed) → IsPatchText text signed → IsPatchText text others → signed ≡ others
+OneList = (text : List ℕ) (signed others : List Signed) → IsPatchText text signed →
+    IsPatchText text others → signed ≡ others
 
 -- A patch text has no bad line.
 abbrev pub NeverBoth : Type 0
-NeverBoth = (text : List ℕ) (signed : List Signed) (n : ℕ) (kind : LineKind) → IsPatchText text signed → ¬ (IsBadLine text n kind)
+NeverBoth = (text : List ℕ) (signed : List Signed) (n : ℕ) (kind : LineKind) →
+    IsPatchText text signed → ¬ (IsBadLine text n kind)
 
 -- A text states signed quads or has a first bad line.
 abbrev pub EachText : Type 0
 EachText =
     (text : List ℕ)
-    → ((signed : List Signed) × IsPatchText text signed) ⊎ ((n : ℕ) × (bad : List ℕ) × IsFirstBad text n bad)
+    →
+    ((signed : List Signed) × IsPatchText text signed)
+    ⊎ ((n : ℕ) × (bad : List ℕ) × IsFirstBad text n bad)
 
 -- A first bad line isn't without a kind.
 abbrev pub EachKind : Type 0
 EachKind =
-    (text : List ℕ) (n : ℕ) (bad : List ℕ) → IsFirstBad text n bad → ¬ ((kind : LineKind) → ¬ (IsBadLine text n kind))
+    (text : List ℕ) (n : ℕ) (bad : List ℕ) → IsFirstBad text n bad →
+    ¬ ((kind : LineKind) → ¬ (IsBadLine text n kind))
 
 -- A text has at most one first bad line, of one kind.
 abbrev pub OneBadLine : Type 0
 OneBadLine =
-    (text : List ℕ) (n m : ℕ) (kind other : LineKind) → IsBadLine text n kind → IsBadLine text m other
+    (text : List ℕ) (n m : ℕ) (kind other : LineKind) → IsBadLine text n kind →
+    IsBadLine text m other
     → (n ≡ m) × (kind ≡ other)
 
 -- The canonical line of a quad that the grammar gives states that quad, where it isn't too long.
@@ -47,9 +53,11 @@ CanonicalStates =
 
 -- Two quads that the grammar gives have one canonical line only where they are one.
 abbrev pub CanonicalIsOne : Type 0
-CanonicalIsOne = (quad other : Quad) → IsGiven quad → IsGiven other → line quad ≡ line other → quad ≡ other
+CanonicalIsOne =
+    (quad other : Quad) → IsGiven quad → IsGiven other → line quad ≡ line other → quad ≡ other
 
--- Reading a line from left to right gives what the grammar relates to its characters, and nothing else.
+-- Reading a line from left to right gives what the grammar relates to its characters, and nothing
+-- else.
 abbrev pub LineRead : Type 0
 LineRead =
     (allowed : Allowed) (characters : List ℕ) (stated : Option Signed)
@@ -57,12 +65,15 @@ LineRead =
 
 -- What a text states is of such terms as canonical lines can give back.
 abbrev pub StatesGiven : Type 0
-StatesGiven = (text : List ℕ) (signed : List Signed) → IsPatchText text signed → AllByRecursion (λ line. IsGiven line.quad) signed
+StatesGiven = (text : List ℕ) (signed : List Signed) → IsPatchText text signed →
+    AllByRecursion (λ line. IsGiven line.quad) signed
 
--- Worked cases of bad lines: one of each kind, and of two faults the one that stands first in the line.
+-- Worked cases of bad lines: one of each kind, and of two faults the one that stands first in the
+-- line.
 abbrev pub WorkedBadLines : Type 0
 WorkedBadLines =
-    IsBadLine third_line_relative 3 RelativeIri × IsBadLine escaped_space 1 BadEscape × IsBadLine escaped_surrogate 1 BadEscape
+    IsBadLine third_line_relative 3 RelativeIri × IsBadLine escaped_space 1 BadEscape
+    × IsBadLine escaped_surrogate 1 BadEscape
     × IsBadLine relative_before_escape 1 RelativeIri
     × IsBadLine literal_predicate 1 Syntax
     × IsBadLine no_utf8 1 NotUtf8
@@ -70,4 +81,5 @@ WorkedBadLines =
 -- A line with more bytes than a line may have is bad by its length, whatever stands in it.
 abbrev pub LongLineIsBad : Type 0
 LongLineIsBad =
-    (line : List ℕ) → lines_of line ≡ line ∷ [] → line_limit < length line → IsBadLine line 1 LineTooLong
+    (line : List ℕ) → lines_of line ≡ line ∷ [] → line_limit < length line →
+    IsBadLine line 1 LineTooLong

@@ -127,5 +127,6 @@ pub end_at_last : lines_of (codes "a\n") ≡ codes "a" ∷ [] ∷ []
 end_at_last = refl
 
 -- CR CR LF are two ends, and so are LF CR
-pub ends_beside : lines_of (codes "a\r\r\nb\n\rc") ≡ codes "a" ∷ [] ∷ codes "b" ∷ [] ∷ codes "c" ∷ []
+pub ends_beside :
+    lines_of (codes "a\r\r\nb\n\rc") ≡ codes "a" ∷ [] ∷ codes "b" ∷ [] ∷ codes "c" ∷ []
 ends_beside = refl

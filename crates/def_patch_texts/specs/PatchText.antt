@@ -16,15 +16,18 @@ with_first byte (line ∷ lines) = (byte ∷ line) ∷ lines
 abbrev pub is_line_end : ℕ → Bool
 is_line_end byte = nat_eq byte ch.carriage_return || nat_eq byte ch.line_feed
 
--- A byte before these lines: LF behind CR ends no further line, CR or LF ends a line, and any other byte belongs to the first.
+-- A byte before these lines: LF behind CR ends no further line, CR or LF ends a line, and any other
+-- byte belongs to the first.
 abbrev pub cut_at : Bool → ℕ → List (List ℕ) → List (List ℕ)
 cut_at after_cr byte lines =
-    if after_cr && nat_eq byte ch.line_feed then lines else if is_line_end byte then ([] ∷ lines) else with_first byte lines
+    if after_cr && nat_eq byte ch.line_feed then lines else if is_line_end byte then ([] ∷ lines)
+    else with_first byte lines
 
 -- the lines of what stands behind CR or not
 abbrev pub lines_from : Bool → List ℕ → List (List ℕ)
 lines_from after_cr [] = [] ∷ []
-lines_from after_cr (byte ∷ rest) = cut_at after_cr byte (lines_from (nat_eq byte ch.carriage_return) rest)
+lines_from after_cr (byte ∷ rest) =
+    cut_at after_cr byte (lines_from (nat_eq byte ch.carriage_return) rest)
 
 -- The lines of a text without their ends, which are CR LF, a lone LF or a lone CR.
 abbrev pub lines_of : List ℕ → List (List ℕ)
@@ -46,7 +49,8 @@ pub record IsEncoded (bytes characters : List ℕ) : Type 0 where
 -- a line: not too long, UTF-8, and by the grammar a signed quad or skipped
 abbrev pub IsLine : List ℕ → Option Signed → Type 0
 IsLine bytes stated =
-    (length bytes ≤ line_limit) × (characters : List ℕ) × IsEncoded bytes characters × IsLineOf absolute_iris characters stated
+    (length bytes ≤ line_limit) × (characters : List ℕ) × IsEncoded bytes characters
+    × IsLineOf absolute_iris characters stated
 
 -- what a line adds to those of the lines after it
 abbrev pub with_stated : Option Signed → List Signed → List Signed

@@ -1,4 +1,5 @@
--- A line read from left to right. It computes what the grammar relates to the characters of the line.
+-- A line read from left to right. It computes what the grammar relates to the characters of the
+-- line.
 use Rattle.std.specs.Prelude.{ℕ, zero, suc, nat_eq, Bool, true, false, ◌&&◌, if◌then◌else◌, List, [], ◌∷◌, length, take, drop, Option, Some, None, encode_utf8_all}
 use Rattle.std.specs.Str.{all_scalars}
 use Rattle.std.specs.List.{prefix_len, list_all}
@@ -37,21 +38,25 @@ unfoldable pub numbered_at : ℕ → List ℕ → Option (ℕ × List ℕ)
 numbered_at count text =
     let digits = take count text in
     let c = hex_number 0 digits in
-    if nat_eq (length digits) count && list_all is_hex_digit digits && all_scalars (c ∷ []) then Some (c, drop count text)
+    if nat_eq (length digits) count && list_all is_hex_digit digits && all_scalars (c ∷ [])
+    then Some (c, drop count text)
     else None
 
 -- the character of `u` with 4 digits or `U` with 8
 unfoldable pub unicode_at : List ℕ → Option (ℕ × List ℕ)
 unicode_at [] = None
 unicode_at (letter ∷ rest) =
-    if nat_eq letter ch.letter_u then numbered_at 4 rest else if nat_eq letter ch.capital_u then numbered_at 8 rest else None
+    if nat_eq letter ch.letter_u then numbered_at 4 rest else if nat_eq letter ch.capital_u
+    then numbered_at 8 rest else None
 
 -- ---- IRIs
 
 unfoldable pub iri_part_at : Allowed → List ℕ → Option (ℕ × List ℕ)
 iri_part_at allowed [] = None
 iri_part_at allowed (c ∷ rest) =
-    if nat_eq c ch.backslash then (unicode_at rest >>= λ named. if is_iri_char named.0 && allowed.escape (c ∷ rest) named.1 then Some named else None)
+    if nat_eq c ch.backslash
+    then (unicode_at rest >>= λ named.
+    if is_iri_char named.0 && allowed.escape (c ∷ rest) named.1 then Some named else None)
     else if is_iri_char c then Some (c, rest)
     else None
 
@@ -60,7 +65,8 @@ unfoldable pub iri_parts_at : ℕ → Allowed → List ℕ → Option (List ℕ 
 iri_parts_at zero allowed text = None
 iri_parts_at (suc room) allowed text =
     if starts ch.greater text then Some ([], text)
-    else (iri_part_at allowed text >>= λ part. iri_parts_at room allowed part.1 >>= λ others. Some (part.0 ∷ others.0, others.1))
+    else (iri_part_at allowed text >>= λ part.
+    iri_parts_at room allowed part.1 >>= λ others. Some (part.0 ∷ others.0, others.1))
 
 unfoldable pub iri_at : Allowed → List ℕ → Option (List ℕ × List ℕ)
 iri_at allowed text = do
@@ -74,7 +80,8 @@ iri_at allowed text = do
 -- the length of the longest front, up to this length, that passes a test, or zero
 unfoldable pub longest_front : (List ℕ → Bool) → ℕ → List ℕ → ℕ
 longest_front test zero text = 0
-longest_front test (suc n) text = if test (take (suc n) text) then suc n else longest_front test n text
+longest_front test (suc n) text =
+    if test (take (suc n) text) then suc n else longest_front test n text
 
 -- the longest front that passes a test
 unfoldable pub front_at : (List ℕ → Bool) → List ℕ → Option (List ℕ × List ℕ)
@@ -99,26 +106,30 @@ tag_at text = do
 
 -- what the backslash and this letter stand for, or the escape by a number behind the backslash
 abbrev pub escape_at : Allowed → List ℕ → List ℕ → List ℕ → Option ℕ → Option (ℕ × List ℕ)
-escape_at allowed text behind rest (Some named) = if allowed.escape text rest then Some (named, rest) else None
+escape_at allowed text behind rest (Some named) =
+    if allowed.escape text rest then Some (named, rest) else None
 escape_at allowed text behind rest None =
     unicode_at behind >>= λ named. if allowed.escape text named.1 then Some named else None
 
 -- what stands behind a backslash
 unfoldable pub string_escape_at : Allowed → List ℕ → List ℕ → Option (ℕ × List ℕ)
 string_escape_at allowed text [] = None
-string_escape_at allowed text (letter ∷ rest) = escape_at allowed text (letter ∷ rest) rest (short_escape letter)
+string_escape_at allowed text (letter ∷ rest) =
+    escape_at allowed text (letter ∷ rest) rest (short_escape letter)
 
 unfoldable pub string_part_at : Allowed → List ℕ → Option (ℕ × List ℕ)
 string_part_at allowed [] = None
 string_part_at allowed (c ∷ rest) =
-    if nat_eq c ch.backslash then string_escape_at allowed (c ∷ rest) rest else if is_string_char c then Some (c, rest) else None
+    if nat_eq c ch.backslash then string_escape_at allowed (c ∷ rest) rest else if is_string_char c
+    then Some (c, rest) else None
 
 -- the characters before `"`, which are at most so many
 unfoldable pub string_parts_at : ℕ → Allowed → List ℕ → Option (List ℕ × List ℕ)
 string_parts_at zero allowed text = None
 string_parts_at (suc room) allowed text =
     if starts ch.quote text then Some ([], text)
-    else (string_part_at allowed text >>= λ part. string_parts_at room allowed part.1 >>= λ others. Some (part.0 ∷ others.0, others.1))
+    else (string_part_at allowed text >>= λ part.
+    string_parts_at room allowed part.1 >>= λ others. Some (part.0 ∷ others.0, others.1))
 
 unfoldable pub string_at : Allowed → List ℕ → Option (List ℕ × List ℕ)
 string_at allowed text = do
@@ -145,13 +156,18 @@ typed_at allowed text = do
 -- a literal with this string, behind which this text stands
 unfoldable pub suffix_at : Allowed → List ℕ → List ℕ → Option (Term × List ℕ)
 suffix_at allowed value text =
-    if starts ch.caret (skip text) then (typed_at allowed (skip text) >>= λ datatype. Some (Literal value datatype.0 None, datatype.1))
-    else if starts ch.at_sign (skip text) then (tag_at (skip text) >>= λ tag. Some (Literal value rdf_lang_string (Some tag.0), tag.1))
+    if starts ch.caret (skip text)
+    then (typed_at allowed (skip text) >>= λ datatype.
+    Some (Literal value datatype.0 None, datatype.1))
+    else if starts ch.at_sign (skip text) then
+    (tag_at (skip text) >>= λ tag. Some (Literal value rdf_lang_string (Some tag.0), tag.1))
     else Some (Literal value xsd_string None, text)
 
 unfoldable pub object_at : Allowed → List ℕ → Option (Term × List ℕ)
 object_at allowed text =
-    if starts ch.quote text then (string_at allowed text >>= λ value. suffix_at allowed value.0 value.1) else node_at allowed text
+    if starts ch.quote text
+    then (string_at allowed text >>= λ value. suffix_at allowed value.0 value.1)
+    else node_at allowed text
 
 -- ---- lines
 
@@ -165,7 +181,8 @@ named_at allowed text = do
 -- the graph label, where there is one, and the dot
 unfoldable pub graph_at : Allowed → List ℕ → Option (Option Term × List ℕ)
 graph_at allowed text =
-    if starts ch.dot (skip text) then (after_char ch.dot (skip text) >>= λ rest. Some (None, rest)) else named_at allowed (skip text)
+    if starts ch.dot (skip text) then (after_char ch.dot (skip text) >>= λ rest. Some (None, rest))
+    else named_at allowed (skip text)
 
 -- nothing, or a comment
 abbrev pub is_comment : List ℕ → Bool
@@ -187,8 +204,11 @@ statement_at allowed text = do
 -- the sign of a line and the statement behind it
 unfoldable pub sign_at : List ℕ → Option (Bool × List ℕ)
 sign_at text =
-    if starts ch.plus text then (after_char ch.plus text >>= λ space. after_char ch.space space >>= λ rest. Some (true, rest))
-    else if starts ch.hyphen text then (after_char ch.hyphen text >>= λ space. after_char ch.space space >>= λ rest. Some (false, rest))
+    if starts ch.plus text
+    then (after_char ch.plus text >>= λ space.
+    after_char ch.space space >>= λ rest. Some (true, rest))
+    else if starts ch.hyphen text then (after_char ch.hyphen text >>= λ space.
+    after_char ch.space space >>= λ rest. Some (false, rest))
     else Some (true, text)
 
 unfoldable pub signed_at : Allowed → List ℕ → Option (Option Signed)

@@ -32,20 +32,23 @@ pub record IsTagged (text language rest : List ℕ) : Type 0 where
 abbrev pub IsSuffix : Allowed → List ℕ → List ℕ → Option (List ℕ) → List ℕ → Type 0
 IsSuffix allowed text datatype None rest =
     ((datatype ≡ xsd_string) × (text ≡ rest)) ⊎ IsTyped allowed text datatype rest
-IsSuffix allowed text datatype (Some language) rest = (datatype ≡ rdf_lang_string) × IsTagged text language rest
+IsSuffix allowed text datatype (Some language) rest =
+    (datatype ≡ rdf_lang_string) × IsTagged text language rest
 
 -- object ::= IRIREF | BLANK_NODE_LABEL | literal
 abbrev pub IsObject : Allowed → List ℕ → Term → List ℕ → Type 0
 IsObject allowed text (Iri iri) rest = IsIri allowed text iri rest
 IsObject allowed text (Blank label) rest = IsBlank text label rest
 IsObject allowed text (Literal value datatype language) rest =
-    (suffix : List ℕ) × IsString allowed text value suffix × IsSuffix allowed suffix datatype language rest
+    (suffix : List ℕ) × IsString allowed text value suffix
+    × IsSuffix allowed suffix datatype language rest
 
 -- the graph label, where there is one, and the dot
 abbrev pub IsGraph : Allowed → List ℕ → Option Term → List ℕ → Type 0
 IsGraph allowed text None rest = IsSpace text (ch.dot ∷ rest)
 IsGraph allowed text (Some name) rest =
-    (label : List ℕ) × (dot : List ℕ) × IsSpace text label × IsNode allowed label name dot × IsSpace dot (ch.dot ∷ rest)
+    (label : List ℕ) × (dot : List ℕ) × IsSpace text label × IsNode allowed label name dot
+    × IsSpace dot (ch.dot ∷ rest)
 
 -- spaces, and a comment or nothing
 abbrev pub IsRest : List ℕ → Type 0
@@ -80,4 +83,5 @@ IsSign text false rest = text ≡ ch.hyphen ∷ ch.space ∷ rest
 abbrev pub IsLineOf : Allowed → List ℕ → Option Signed → Type 0
 IsLineOf allowed text None = IsRest text
 IsLineOf allowed text (Some signed) =
-    (statement : List ℕ) × IsSign text signed.add statement × IsStatement allowed statement signed.quad
+    (statement : List ℕ) × IsSign text signed.add statement
+    × IsStatement allowed statement signed.quad

@@ -12,7 +12,10 @@ use Rattle.def_patch_texts.specs.Reading.{after_char, skip, numbered_at, unicode
 
 -- a proof that unfolds this computes what a line states
 unfoldable pub reading_open : Unit {0}
-unfolding rdf_lang_string encode_utf8 after_char skip numbered_at unicode_at iri_part_at iri_parts_at iri_at longest_front front_at blank_at tag_at string_escape_at string_part_at string_parts_at string_at node_at typed_at suffix_at object_at named_at graph_at statement_at sign_at signed_at line_at
+unfolding rdf_lang_string encode_utf8 after_char skip numbered_at unicode_at iri_part_at
+    iri_parts_at iri_at longest_front front_at blank_at tag_at string_escape_at string_part_at
+    string_parts_at string_at node_at typed_at suffix_at object_at named_at graph_at statement_at
+    sign_at signed_at line_at
 reading_open = tt
 
 -- ---- what the texts add and delete
@@ -46,7 +49,12 @@ close_terms_canonical = refl
 -- ---- a sign, and labels with and before a dot
 
 abbrev pub labelled_quad : Quad
-labelled_quad = record { subject = Blank (codes "a.b"); predicate = Iri (codes "http://e/p"); object = Blank (codes "c"); graph = None }
+labelled_quad = record {
+  subject = Blank (codes "a.b");
+  predicate = Iri (codes "http://e/p");
+  object = Blank (codes "c");
+  graph = None;
+}
 
 pub labels_read : line_at absolute_iris (codes "- _:a.b <http://e/p> _:c.") ≡ deletes labelled_quad
 unfolding reading_open
@@ -67,11 +75,14 @@ named_quad = record {
   graph = Some (Iri (codes "http://e/g"));
 }
 
-pub graph_read : line_at absolute_iris (codes "<http://e/a> <http://e/p> \"x\"^^<http://e/d> <http://e/g> .") ≡ adds named_quad
+pub graph_read :
+    line_at absolute_iris (codes "<http://e/a> <http://e/p> \"x\"^^<http://e/d> <http://e/g> .")
+    ≡ adds named_quad
 unfolding reading_open
 graph_read = refl
 
-pub graph_canonical : line named_quad ≡ codes "<http://e/a> <http://e/p> \"x\"^^<http://e/d> <http://e/g> ."
+pub graph_canonical :
+    line named_quad ≡ codes "<http://e/a> <http://e/p> \"x\"^^<http://e/d> <http://e/g> ."
 unfolding xsd_string
 graph_canonical = refl
 
@@ -116,7 +127,8 @@ surrogate_refused = refl
 
 -- ---- lines of a text
 
-pub ends_of_lines : lines_of (codes "a\r\nb\rc\n\nd") ≡ codes "a" ∷ codes "b" ∷ codes "c" ∷ [] ∷ codes "d" ∷ []
+pub ends_of_lines :
+    lines_of (codes "a\r\nb\rc\n\nd") ≡ codes "a" ∷ codes "b" ∷ codes "c" ∷ [] ∷ codes "d" ∷ []
 ends_of_lines = refl
 
 -- ---- texts with a bad line

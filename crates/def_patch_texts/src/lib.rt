@@ -1,4 +1,5 @@
-//! The grammar of patch texts: N-Quads lines with an optional sign (RDF 1.1 N-Quads, section 2.1 and appendix A).
+//! The grammar of patch texts: N-Quads lines with an optional sign (RDF 1.1 N-Quads, section 2.1
+//! and appendix A).
 #![tactic(auto)]
 
 mod kind;

@@ -1,12 +1,13 @@
--- JSON texts in compact form (RFC 8259, sections 2 to 5 and 7): no space between tokens, and the least escapes.
+-- JSON texts in compact form (RFC 8259, sections 2 to 5 and 7): no space between tokens, and the
+-- least escapes.
 use Rattle.std.specs.Prelude.{◌≡◌, List, [], ◌∷◌, ◌++◌, ℕ, ◌/◌, ◌%◌, nat_eq, nat_lt, flat_map, if◌then◌else◌}
 use Rattle.std.specs.List.{join_with_byte}
 use Rattle.std.specs.Char.{digit_char}
 use Rattle.lf_base.specs.Ascii as ch
 
--- What stands in a string for one byte of its UTF-8 text. The quote and the backslash have a backslash before them,
--- and backspace, tab, LF, form feed and CR their letter after one. Any other byte below 0x20 is `\u00` and two
--- lower-case digits. Every other byte is itself.
+-- What stands in a string for one byte of its UTF-8 text. The quote and the backslash have a
+-- backslash before them, and backspace, tab, LF, form feed and CR their letter after one. Any other
+-- byte below 0x20 is `\u00` and two lower-case digits. Every other byte is itself.
 abbrev pub json_byte : ℕ → List ℕ
 json_byte b =
     if nat_eq b ch.quote then ch.backslash ∷ ch.quote ∷ []
@@ -16,7 +17,8 @@ json_byte b =
     else if nat_eq b ch.line_feed then ch.backslash ∷ ch.letter_n ∷ []
     else if nat_eq b ch.form_feed then ch.backslash ∷ ch.letter_f ∷ []
     else if nat_eq b ch.carriage_return then ch.backslash ∷ ch.letter_r ∷ []
-    else if nat_lt b ch.space then ch.backslash ∷ ch.letter_u ∷ ch.zero_digit ∷ ch.zero_digit ∷ digit_char (b / 16) ∷ digit_char (b % 16) ∷ []
+    else if nat_lt b ch.space then ch.backslash ∷ ch.letter_u ∷ ch.zero_digit ∷ ch.zero_digit ∷
+    digit_char (b / 16) ∷ digit_char (b % 16) ∷ []
     else b ∷ []
 
 -- the JSON string of a text

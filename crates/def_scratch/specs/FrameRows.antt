@@ -44,14 +44,16 @@ frame_text = map_of ((codes "http://e/p", map_of []) ∷ [])
 abbrev pub numbered_frame : Frame
 numbered_frame =
     record {
-      nodes = row (record { property = codes "http://e/p"; frame = Some 1 } ∷ []) kind.Node ∷ row [] kind.Wild ∷ [];
+      nodes = row (record { property = codes "http://e/p"; frame = Some 1 } ∷ []) kind.Node
+          ∷ row [] kind.Wild ∷ [];
       context = json.Null;
       table = empty_table;
       top_graph = false;
     }
 
 abbrev pub shared : List Quad
-shared = quad a p (Blank (codes "x")) ∷ quad b p (Blank (codes "x")) ∷ quad (Blank (codes "x")) q (string (codes "1")) ∷ []
+shared = quad a p (Blank (codes "x")) ∷ quad b p (Blank (codes "x"))
+    ∷ quad (Blank (codes "x")) q (string (codes "1")) ∷ []
 
 abbrev pub shared_document : List ℕ
 shared_document =

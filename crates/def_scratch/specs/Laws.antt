@@ -26,7 +26,8 @@ FrameErrorsDecide =
 abbrev pub SameViewsSameDocument : Type 0
 SameViewsSameDocument =
     (meaning : FrameMeaning) (one two : List Quad) → terms one ≡ terms two →
-    ((graph : GraphRef) (id : Term) → (of_dataset one).view graph id ≡ (of_dataset two).view graph id) →
+    ((graph : GraphRef) (id : Term) →
+    (of_dataset one).view graph id ≡ (of_dataset two).view graph id) →
     ((graph : GraphRef) → (of_dataset one).keys graph ≡ (of_dataset two).keys graph) →
     ((graph : GraphRef) (property : List ℕ) (id : Term) →
     (of_dataset one).pointing graph property id ≡ (of_dataset two).pointing graph property id)
@@ -36,7 +37,8 @@ SameViewsSameDocument =
 -- a value of the type `Frame` has the document of what it means
 abbrev pub FrameGivesDocumentOfItsMeaning : Type 0
 FrameGivesDocumentOfItsMeaning =
-    (f : Frame) (dataset : List Quad) → scratch_frame f dataset ≡ scratch_of (frame_meaning f) dataset
+    (f : Frame) (dataset : List Quad) →
+    scratch_frame f dataset ≡ scratch_of (frame_meaning f) dataset
 
 -- where it stands for a text, that of the text
 abbrev pub FrameGivesDocumentOfItsText : Type 0

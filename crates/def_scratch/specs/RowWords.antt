@@ -35,5 +35,7 @@ typed lexical datatype = Literal lexical datatype None
 
 -- a proof that unfolds this computes documents from frames and quads
 unfoldable pub rows_open : Unit {0}
-unfolding frames_open selection_open accepts kind_accepts prop_tests emit emit_all embed node_items most_items most_bytes digits a b c g l n p q xsd_string rdf_lang_string rdf_type rdf_first rdf_rest rdf_nil rdf_list
+unfolding frames_open selection_open accepts kind_accepts prop_tests emit emit_all embed node_items
+    most_items most_bytes digits a b c g l n p q xsd_string rdf_lang_string rdf_type rdf_first
+    rdf_rest rdf_nil rdf_list
 rows_open = tt

@@ -22,22 +22,27 @@ unfolding rows_open
 empty_data = refl
 
 pub empty_data_with_context :
-    Prints (map_of ((codes "@context", map_of ((codes "@vocab", text (codes "http://e/")) ∷ [])) ∷ [])) []
+    Prints
+    (map_of ((codes "@context", map_of ((codes "@vocab", text (codes "http://e/")) ∷ [])) ∷ []))
+    []
     (codes "{\"@context\":{\"@vocab\":\"http://e/\"}}")
 unfolding rows_open
 empty_data_with_context = refl
 
 -- the label occurs once, and `_:b` stands before the IRI
 pub blank_pruned :
-    Prints (map_of []) (quad a p (string (codes "2")) ∷ quad (Blank (codes "b")) p (string (codes "1")) ∷ [])
+    Prints (map_of [])
+    (quad a p (string (codes "2")) ∷ quad (Blank (codes "b")) p (string (codes "1")) ∷ [])
     (codes "{\"@graph\":[{\"http://e/p\":\"1\"},{\"@id\":\"http://e/a\",\"http://e/p\":\"2\"}]}")
 unfolding rows_open
 blank_pruned = refl
 
 pub library :
     Prints (map_of ((codes "@context", map_of ((codes "@version", fraction) ∷ (codes "@vocab", text (codes "http://l/")) ∷ (codes "contains", map_of ((codes "@container", text (codes "@set")) ∷ (codes "@type", text (codes "@id")) ∷ [])) ∷ (codes "creator", map_of ((codes "@id", text (codes "dc:creator")) ∷ (codes "@type", text (codes "@id")) ∷ [])) ∷ (codes "dc", text (codes "http://purl.org/dc/terms/")) ∷ [])) ∷ (codes "@type", text (codes "Library")) ∷ (codes "contains", map_of ((codes "@type", text (codes "Book")) ∷ [])) ∷ [])) (
-    quad (Iri (codes "http://l/b1")) (codes "http://purl.org/dc/terms/creator") (Iri (codes "http://l/plato"))
-    ∷ quad (Iri (codes "http://l/b1")) (codes "http://purl.org/dc/terms/title") (tagged (codes "Republic") (codes "en"))
+    quad (Iri (codes "http://l/b1")) (codes "http://purl.org/dc/terms/creator")
+    (Iri (codes "http://l/plato"))
+    ∷ quad (Iri (codes "http://l/b1")) (codes "http://purl.org/dc/terms/title")
+    (tagged (codes "Republic") (codes "en"))
     ∷ quad (Iri (codes "http://l/b1")) rdf_type (Iri (codes "http://l/Book"))
     ∷ quad (Iri (codes "http://l/lib")) (codes "http://l/contains") (Iri (codes "http://l/b1"))
     ∷ quad (Iri (codes "http://l/lib")) rdf_type (Iri (codes "http://l/Library"))
@@ -58,13 +63,15 @@ unfolding rows_open
 shared_blank = refl
 
 pub shared_blank_later :
-    Prints (map_of ((codes "http://e/p", map_of []) ∷ [])) (quad a p (Blank (codes "x")) ∷ quad (Blank (codes "x")) q (string (codes "1")) ∷ [])
+    Prints (map_of ((codes "http://e/p", map_of []) ∷ []))
+    (quad a p (Blank (codes "x")) ∷ quad (Blank (codes "x")) q (string (codes "1")) ∷ [])
     (codes "{\"@id\":\"http://e/a\",\"http://e/p\":{\"http://e/q\":\"1\"}}")
 unfolding rows_open
 shared_blank_later = refl
 
 pub once_per_tree :
-    Prints (map_of ((codes "http://e/p", map_of []) ∷ [])) (quad a p c ∷ quad a q c ∷ quad b p c ∷ quad c n (string (codes "c")) ∷ [])
+    Prints (map_of ((codes "http://e/p", map_of []) ∷ []))
+    (quad a p c ∷ quad a q c ∷ quad b p c ∷ quad c n (string (codes "c")) ∷ [])
     (codes "{\"@graph\":[{\"@id\":\"http://e/a\",\"http://e/p\":{\"@id\":\"http://e/c\",\"http://e/n\":\"c\"},\"http://e/q\":{\"@id\":\"http://e/c\"}},{\"@id\":\"http://e/b\",\"http://e/p\":{\"@id\":\"http://e/c\",\"http://e/n\":\"c\"}}]}")
 unfolding rows_open
 once_per_tree = refl
@@ -127,55 +134,83 @@ unfolding rows_open
 no_list_itself = refl
 
 pub default_value :
-    Prints (map_of ((codes "@id", text (codes "http://e/a")) ∷ (codes "http://e/p", map_of ((codes "@default", text (codes "d")) ∷ (codes "@value", text (codes "y")) ∷ [])) ∷ [])) (quad a p (string (codes "x")) ∷ [])
+    Prints (map_of ((codes "@id", text (codes "http://e/a"))
+    ∷ (
+      codes "http://e/p",
+      map_of
+          ((codes "@default", text (codes "d")) ∷ (codes "@value", text (codes "y")) ∷ []),
+    )
+    ∷ [])) (quad a p (string (codes "x")) ∷ [])
     (codes "{\"@id\":\"http://e/a\",\"http://e/p\":\"d\"}")
 unfolding rows_open
 default_value = refl
 
 pub default_null :
-    Prints (map_of ((codes "@id", text (codes "http://e/a")) ∷ (codes "http://e/p", map_of ((codes "@value", text (codes "y")) ∷ [])) ∷ [])) (quad a p (string (codes "x")) ∷ [])
+    Prints (map_of ((codes "@id", text (codes "http://e/a"))
+    ∷ (codes "http://e/p", map_of ((codes "@value", text (codes "y")) ∷ [])) ∷ []))
+    (quad a p (string (codes "x")) ∷ [])
     (codes "{\"@id\":\"http://e/a\",\"http://e/p\":null}")
 unfolding rows_open
 default_null = refl
 
 pub default_set :
-    Prints (map_of ((codes "@context", map_of ((codes "p", map_of ((codes "@container", text (codes "@set")) ∷ (codes "@id", text (codes "http://e/p")) ∷ [])) ∷ [])) ∷ (codes "@id", text (codes "http://e/a")) ∷ (codes "p", map_of ((codes "@value", text (codes "y")) ∷ [])) ∷ [])) (quad a p (string (codes "x")) ∷ [])
+    Prints (map_of ((
+      codes "@context",
+      map_of ((
+        codes "p",
+        map_of ((codes "@container", text (codes "@set"))
+            ∷ (codes "@id", text (codes "http://e/p")) ∷ []),
+      ) ∷ []),
+    )
+    ∷ (codes "@id", text (codes "http://e/a"))
+    ∷ (codes "p", map_of ((codes "@value", text (codes "y")) ∷ [])) ∷ []))
+    (quad a p (string (codes "x")) ∷ [])
     (codes "{\"@context\":{\"p\":{\"@container\":\"@set\",\"@id\":\"http://e/p\"}},\"@id\":\"http://e/a\",\"p\":[]}")
 unfolding rows_open
 default_set = refl
 
 pub match_none :
-    Prints (map_of ((codes "http://e/p", list_of []) ∷ [])) (quad a p (string (codes "1")) ∷ quad b q (string (codes "2")) ∷ [])
+    Prints (map_of ((codes "http://e/p", list_of []) ∷ []))
+    (quad a p (string (codes "1")) ∷ quad b q (string (codes "2")) ∷ [])
     (codes "{\"@id\":\"http://e/b\",\"http://e/p\":null,\"http://e/q\":\"2\"}")
 unfolding rows_open
 match_none = refl
 
 pub match_either :
-    Prints (map_of ((codes "http://e/p", map_of []) ∷ (codes "http://e/q", map_of []) ∷ [])) (quad a p (string (codes "1")) ∷ quad b q (string (codes "2")) ∷ [])
+    Prints (map_of ((codes "http://e/p", map_of []) ∷ (codes "http://e/q", map_of []) ∷ []))
+    (quad a p (string (codes "1")) ∷ quad b q (string (codes "2")) ∷ [])
     (codes "{\"@graph\":[{\"@id\":\"http://e/a\",\"http://e/p\":\"1\",\"http://e/q\":null},{\"@id\":\"http://e/b\",\"http://e/p\":null,\"http://e/q\":\"2\"}]}")
 unfolding rows_open
 match_either = refl
 
 pub match_both :
-    Prints (map_of ((codes "@requireAll", truth true) ∷ (codes "http://e/p", map_of []) ∷ (codes "http://e/q", map_of []) ∷ [])) (quad a p (string (codes "1")) ∷ quad b q (string (codes "2")) ∷ [])
+    Prints (map_of ((codes "@requireAll", truth true) ∷ (codes "http://e/p", map_of [])
+    ∷ (codes "http://e/q", map_of []) ∷ []))
+    (quad a p (string (codes "1")) ∷ quad b q (string (codes "2")) ∷ [])
     (codes "{}")
 unfolding rows_open
 match_both = refl
 
 pub match_one_alone :
-    Prints (map_of ((codes "@requireAll", truth true) ∷ (codes "http://e/p", map_of []) ∷ (codes "http://e/q", list_of []) ∷ [])) (quad a p (string (codes "1")) ∷ quad b q (string (codes "2")) ∷ [])
+    Prints (map_of ((codes "@requireAll", truth true) ∷ (codes "http://e/p", map_of [])
+    ∷ (codes "http://e/q", list_of []) ∷ []))
+    (quad a p (string (codes "1")) ∷ quad b q (string (codes "2")) ∷ [])
     (codes "{\"@id\":\"http://e/a\",\"http://e/p\":\"1\",\"http://e/q\":null}")
 unfolding rows_open
 match_one_alone = refl
 
 pub reverse_before :
-    Prints (map_of ((codes "@id", text (codes "http://e/a")) ∷ (codes "@reverse", map_of ((codes "http://e/p", map_of []) ∷ [])) ∷ [])) (quad a n (string (codes "A")) ∷ [])
+    Prints (map_of ((codes "@id", text (codes "http://e/a"))
+    ∷ (codes "@reverse", map_of ((codes "http://e/p", map_of []) ∷ [])) ∷ []))
+    (quad a n (string (codes "A")) ∷ [])
     (codes "{\"@id\":\"http://e/a\",\"http://e/n\":\"A\"}")
 unfolding rows_open
 reverse_before = refl
 
 pub reverse_arrives :
-    Prints (map_of ((codes "@id", text (codes "http://e/a")) ∷ (codes "@reverse", map_of ((codes "http://e/p", map_of []) ∷ [])) ∷ [])) (quad a n (string (codes "A")) ∷ quad b p a ∷ [])
+    Prints (map_of ((codes "@id", text (codes "http://e/a"))
+    ∷ (codes "@reverse", map_of ((codes "http://e/p", map_of []) ∷ [])) ∷ []))
+    (quad a n (string (codes "A")) ∷ quad b p a ∷ [])
     (codes "{\"@id\":\"http://e/a\",\"@reverse\":{\"http://e/p\":{\"@id\":\"http://e/b\",\"http://e/p\":{\"@id\":\"http://e/a\"}}},\"http://e/n\":\"A\"}")
 unfolding rows_open
 reverse_arrives = refl
@@ -203,13 +238,16 @@ unfolding rows_open
 language_map = refl
 
 pub confused_prefix :
-    Gives (map_of ((codes "@context", map_of ((codes "tag", text (codes "http://t/")) ∷ [])) ∷ (codes "@id", text (codes "http://e/a")) ∷ [])) (quad a n (string (codes "A")) ∷ quad a p (Iri (codes "tag:x,1")) ∷ [])
+    Gives (map_of ((codes "@context", map_of ((codes "tag", text (codes "http://t/")) ∷ []))
+    ∷ (codes "@id", text (codes "http://e/a")) ∷ []))
+    (quad a n (string (codes "A")) ∷ quad a p (Iri (codes "tag:x,1")) ∷ [])
     (Refused ld.IriConfusedWithPrefix)
 unfolding rows_open
 confused_prefix = refl
 
 pub confused_before :
-    Prints (map_of ((codes "@context", map_of ((codes "tag", text (codes "http://t/")) ∷ [])) ∷ (codes "@id", text (codes "http://e/a")) ∷ [])) (quad a n (string (codes "A")) ∷ [])
+    Prints (map_of ((codes "@context", map_of ((codes "tag", text (codes "http://t/")) ∷ []))
+    ∷ (codes "@id", text (codes "http://e/a")) ∷ [])) (quad a n (string (codes "A")) ∷ [])
     (codes "{\"@context\":{\"tag\":\"http://t/\"},\"@id\":\"http://e/a\",\"http://e/n\":\"A\"}")
 unfolding rows_open
 confused_before = refl

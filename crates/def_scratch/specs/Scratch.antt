@@ -27,6 +27,7 @@ scratch_by (Err error) dataset = Err error
 abbrev pub scratch_text : JsonValue → List Quad → Result Doc LdError
 scratch_text frame dataset = scratch_by (frame_of frame) dataset
 
--- the document of a value of the type `Frame` over a dataset: that of the outcomes of its terms, in order
+-- the document of a value of the type `Frame` over a dataset: that of the outcomes of its terms, in
+-- order
 abbrev pub scratch_frame : Frame → List Quad → Doc
 scratch_frame f dataset = document_of f (map (outcome (of_dataset dataset) f) (terms dataset))

@@ -1,4 +1,5 @@
-//! Laws of scratch documents: the document of a frame's text is that of the frame that is read from it.
+//! Laws of scratch documents: the document of a frame's text is that of the frame that is read from
+//! it.
 ghost use Rattle.def_scratch.specs.FrameRows.{WorkedFrame};
 ghost use Rattle.def_scratch.specs.Laws.{FrameErrorsDecide, FrameGivesDocumentOfItsMeaning, FrameGivesDocumentOfItsText, OutcomesGiveTheDocument, SameViewsSameDocument};
 
@@ -22,7 +23,8 @@ pub fn frame_gives_document_of_its_text()
     ensures { FrameGivesDocumentOfItsText }
 {}
 
-/// Outcomes that a program gives for the terms of a dataset, in order, make the document of the frame and the dataset.
+/// Outcomes that a program gives for the terms of a dataset, in order, make the document of the
+/// frame and the dataset.
 pub fn outcomes_give_the_document()
     ensures { OutcomesGiveTheDocument }
 {}

@@ -1,4 +1,5 @@
--- Compaction of IRIs and keywords (JSON-LD 1.1 Processing Algorithms and API, section 6.2: IRI compaction).
+-- Compaction of IRIs and keywords (JSON-LD 1.1 Processing Algorithms and API, section 6.2: IRI
+-- compaction).
 use Rattle.std.specs.Prelude.{List, [], ◌∷◌, ◌++◌, ℕ, nat_eq, nat_lt, Bool, true, false, not, ◌&&◌, ◌||◌, Option, Some, None, if◌then◌else◌, length, filter, filter_map, drop, is_some, unwrap_or, option_map}
 use Rattle.std.specs.List.{list_any, starts_with}
 use Rattle.std.specs.Option.{option_or}
@@ -35,12 +36,14 @@ term_named table name = find_term name table.terms
 abbrev pub rest_after : List ℕ → Option (List ℕ) → Option (List ℕ)
 rest_after text None = None
 rest_after text (Some start) =
-    if starts_with nat_eq text start && nat_lt (length start) (length text) then Some (drop (length start) text) else None
+    if starts_with nat_eq text start && nat_lt (length start) (length text)
+    then Some (drop (length start) text) else None
 
 -- a rest behind the vocabulary mapping is used where it is neither a term nor a keyword
 abbrev pub unless_taken : TermTable → Option (List ℕ) → Option (List ℕ)
 unless_taken table None = None
-unless_taken table (Some rest) = if is_some (term_named table rest) || is_keyword rest then None else Some rest
+unless_taken table (Some rest) =
+    if is_some (term_named table rest) || is_keyword rest then None else Some rest
 
 abbrev pub by_vocab : TermTable → List ℕ → Option (List ℕ)
 by_vocab table iri = unless_taken table (rest_after iri table.vocab)
@@ -48,7 +51,8 @@ by_vocab table iri = unless_taken table (rest_after iri table.vocab)
 -- the compact IRI that this term makes: its name, a colon and the rest of the IRI
 abbrev pub compact_iri : List ℕ → TermDef → Option (List ℕ)
 compact_iri iri term =
-    if term.prefix then option_map (λ rest. term.name ++ ch.colon ∷ rest) (rest_after iri term.iri) else None
+    if term.prefix then option_map (λ rest. term.name ++ ch.colon ∷ rest) (rest_after iri term.iri)
+    else None
 
 -- a compact IRI is used where it is no term, or, where there is no value, a term of this very IRI
 abbrev pub is_free : List ℕ → Bool → Option TermDef → Bool
@@ -59,12 +63,14 @@ is_free iri has_value (Some term) = not has_value && stands_for iri term
 abbrev pub by_prefix : TermTable → List ℕ → Bool → Option (List ℕ)
 by_prefix table iri has_value =
     least (λ compact. length compact ∷ compact)
-    (filter (λ compact. is_free iri has_value (term_named table compact)) (filter_map (compact_iri iri) table.terms))
+    (filter (λ compact. is_free iri has_value (term_named table compact))
+    (filter_map (compact_iri iri) table.terms))
 
 -- the IRI would be read as a compact one: its scheme is a prefix, and no `//` follows
 abbrev pub is_confused : TermTable → List ℕ → Bool
 is_confused table iri =
-    is_absolute iri && list_any (λ term. text_eq term.name (before_colon iri) && term.prefix) table.terms
+    is_absolute iri
+    && list_any (λ term. text_eq term.name (before_colon iri) && term.prefix) table.terms
     && not (begins_authority (after_colon iri))
 
 -- the compacted IRI, the first that there is of these; none is the error `IRI confused with prefix`
@@ -77,7 +83,8 @@ short table iri vocab pick =
 
 -- a keyword's alias, else the keyword
 abbrev pub short_keyword : TermTable → List ℕ → List ℕ
-short_keyword table keyword = unwrap_or (option_map (λ term. term.name) (chosen table keyword no_value)) keyword
+short_keyword table keyword =
+    unwrap_or (option_map (λ term. term.name) (chosen table keyword no_value)) keyword
 
 -- the compacted id of a node; the id of a blank node stays
 abbrev pub short_node : TermTable → Bool → Term → Option (List ℕ)

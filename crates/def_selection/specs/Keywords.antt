@@ -44,5 +44,6 @@ at_vocab = codes "@vocab"
 
 -- a proof that unfolds this computes chosen terms and compacted IRIs
 unfoldable pub selection_open : Unit {0}
-unfolding at_any at_context at_graph at_id at_language at_list at_none at_null at_reverse at_type at_value at_version at_vocab is_keyword is_absolute
+unfolding at_any at_context at_graph at_id at_language at_list at_none at_null at_reverse at_type
+    at_value at_version at_vocab is_keyword is_absolute
 selection_open = tt

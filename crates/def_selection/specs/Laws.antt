@@ -14,18 +14,22 @@ use Rattle.def_selection.specs.Iris.{short, term_named}
 pub record Fitting (table : TermTable) (iri : List ℕ) (pick : Pick) (term : TermDef) : Type 0 where
   pub has_iri : term.iri ≡ Some iri
   pub in_container : Contains pick.containers term.container
-  pub in_slot : (name : List ℕ) × Contains pick.preferred name × Contains (slots table term) (slot pick.kind name)
+  pub in_slot :
+      (name : List ℕ) × Contains pick.preferred name
+      × Contains (slots table term) (slot pick.kind name)
 
 -- a chosen term is a term of the table that fits
 abbrev pub ChosenFits : Type 0
 ChosenFits =
-    (table : TermTable) (iri : List ℕ) (pick : Pick) (term : TermDef) → chosen table iri pick ≡ Some term
+    (table : TermTable) (iri : List ℕ) (pick : Pick) (term : TermDef) →
+    chosen table iri pick ≡ Some term
     → Contains table.terms term × Fitting table iri pick term
 
 -- no term of the table that fits ranks less than the chosen one
 abbrev pub ChosenIsLeast : Type 0
 ChosenIsLeast =
-    (table : TermTable) (iri : List ℕ) (pick : Pick) (term other : TermDef) → chosen table iri pick ≡ Some term
+    (table : TermTable) (iri : List ℕ) (pick : Pick) (term other : TermDef) →
+    chosen table iri pick ≡ Some term
     → Contains table.terms other → Fitting table iri pick other
     → ranks_less (rank table pick other) (rank table pick term) ≡ false
 
@@ -62,16 +66,20 @@ pub record IsCompactFor (table : TermTable) (iri text : List ℕ) : Type 0 where
   pub written : term.name ++ ch.colon ∷ rest ≡ text
   pub own_term : (named : TermDef) → term_named table text ≡ Some named → named.iri ≡ Some iri
 
--- a compacted IRI is one of these, or the IRI itself; terms and the vocabulary mapping only where the vocabulary counts
+-- a compacted IRI is one of these, or the IRI itself; terms and the vocabulary mapping only where
+-- the vocabulary counts
 abbrev pub ShortTellsIri : Type 0
 ShortTellsIri =
-    (table : TermTable) (iri : List ℕ) (vocab : Bool) (pick : Pick) (text : List ℕ) → short table iri vocab pick ≡ Some text
+    (table : TermTable) (iri : List ℕ) (vocab : Bool) (pick : Pick) (text : List ℕ) →
+    short table iri vocab pick ≡ Some text
     → ((vocab ≡ true) × (IsTermFor table iri text ⊎ IsRestFor table iri text))
     ⊎ (IsCompactFor table iri text ⊎ (text ≡ iri))
 
--- the error comes only for an IRI that reads as a compact one: a prefix, a colon, and no `//` after it
+-- the error comes only for an IRI that reads as a compact one: a prefix, a colon, and no `//` after
+-- it
 abbrev pub OnlyConfused : Type 0
 OnlyConfused =
-    (table : TermTable) (iri : List ℕ) (vocab : Bool) (pick : Pick) → short table iri vocab pick ≡ None
+    (table : TermTable) (iri : List ℕ) (vocab : Bool) (pick : Pick) →
+    short table iri vocab pick ≡ None
     → (term : TermDef) × (rest : List ℕ) × Contains table.terms term × (term.prefix ≡ true)
     × (term.name ++ ch.colon ∷ rest ≡ iri) × (begins_authority rest ≡ false)

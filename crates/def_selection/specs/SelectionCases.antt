@@ -26,12 +26,14 @@ term name iri coercion language held = record {
 }
 
 abbrev table : Option (List ℕ) → List TermDef → TermTable
-table vocab terms = record { vocab = vocab; language = Some (codes "de"); terms = terms; type_set = false }
+table vocab terms =
+    record { vocab = vocab; language = Some (codes "de"); terms = terms; type_set = false }
 
 -- what a literal with the language `en` asks for
 abbrev english : Pick
 english = record {
-  containers = container.Language ∷ container.LanguageSet ∷ container.Set ∷ container.NoContainer ∷ [];
+  containers =
+      container.Language ∷ container.LanguageSet ∷ container.Set ∷ container.NoContainer ∷ [];
   kind = LanguageKind;
   preferred = codes "en" ∷ at_none ∷ at_any ∷ [];
   has_value = true;
@@ -60,10 +62,12 @@ names =
     ∷ term (codes "q") (codes "http://e/q") None None container.Set
     ∷ [])
 
--- a term without a language of its own stands under the table's language, under no language and under no type
+-- a term without a language of its own stands under the table's language, under no language and
+-- under no type
 pub plain_slots :
     slots names (term (codes "p") iri None None container.NoContainer)
-    ≡ slot AnyKind at_none ∷ slot LanguageKind (codes "de") ∷ slot LanguageKind at_none ∷ slot TypeKind at_none ∷ []
+    ≡ slot AnyKind at_none ∷ slot LanguageKind (codes "de") ∷ slot LanguageKind at_none
+    ∷ slot TypeKind at_none ∷ []
 plain_slots = refl
 
 -- the slot of the language comes before the one of no language
@@ -77,7 +81,9 @@ unfolding selection_open
 coerced_to_id = refl
 
 -- in one slot the shortest term is chosen
-pub shortest : option_map (λ t. t.name) (chosen names iri (record linked { preferred = at_none ∷ [] })) ≡ Some (codes "p")
+pub shortest :
+    option_map (λ t. t.name) (chosen names iri (record linked { preferred = at_none ∷ [] }))
+    ≡ Some (codes "p")
 unfolding selection_open
 shortest = refl
 
@@ -94,18 +100,26 @@ pub least_bytes :
 unfolding selection_open
 least_bytes = refl
 
--- a term without a language of its own stands under the table's language, and one whose language is null under `@null`
-pub default_language : option_map (λ t. t.name) (chosen names iri (record english { preferred = codes "de" ∷ at_none ∷ at_any ∷ [] })) ≡ Some (codes "p")
+-- a term without a language of its own stands under the table's language, and one whose language is
+-- null under `@null`
+pub default_language :
+    option_map (λ t. t.name)
+    (chosen names iri (record english { preferred = codes "de" ∷ at_none ∷ at_any ∷ [] }))
+    ≡ Some (codes "p")
 unfolding selection_open
 default_language = refl
 
-pub null_language : option_map (λ t. t.name) (chosen names iri (record english { preferred = codes "@null" ∷ at_none ∷ at_any ∷ [] })) ≡ Some (codes "null")
+pub null_language :
+    option_map (λ t. t.name)
+    (chosen names iri (record english { preferred = codes "@null" ∷ at_none ∷ at_any ∷ [] }))
+    ≡ Some (codes "null")
 unfolding selection_open
 null_language = refl
 
 -- the coercion `@none` stands under any type and any language, which are asked for last
 abbrev any_kind : TermTable
-any_kind = table None (term (codes "any") iri (Some (codes "@none")) None container.NoContainer ∷ [])
+any_kind =
+    table None (term (codes "any") iri (Some (codes "@none")) None container.NoContainer ∷ [])
 
 pub any_type : option_map (λ t. t.name) (chosen any_kind iri linked) ≡ Some (codes "any")
 unfolding selection_open
@@ -141,13 +155,17 @@ any_term = refl
 
 -- a reverse term is chosen where `@reverse` is asked for, and nowhere else
 abbrev turned : TermTable
-turned = table None (record (term (codes "in") iri (Some (codes "@id")) None container.NoContainer) { reverse = true } ∷ [])
+turned = table None (record (term (codes "in") iri (Some (codes "@id")) None container.NoContainer)
+    { reverse = true } ∷ [])
 
 pub reverse_only : chosen turned iri linked ≡ None
 unfolding selection_open
 reverse_only = refl
 
-pub reverse_asked : option_map (λ t. t.name) (chosen turned iri (record linked { preferred = codes "@reverse" ∷ linked.preferred })) ≡ Some (codes "in")
+pub reverse_asked :
+    option_map (λ t. t.name)
+    (chosen turned iri (record linked { preferred = codes "@reverse" ∷ linked.preferred }))
+    ≡ Some (codes "in")
 unfolding selection_open
 reverse_asked = refl
 
@@ -195,7 +213,9 @@ unfolding selection_open
 shortest_prefix = refl
 
 pub least_prefix :
-    short (table None (prefix (codes "eb") (codes "http://e/") ∷ prefix (codes "ea") (codes "http://e/") ∷ [])) (codes "http://e/p") false no_value
+    short (table None
+    (prefix (codes "eb") (codes "http://e/") ∷ prefix (codes "ea") (codes "http://e/") ∷ []))
+    (codes "http://e/p") false no_value
     ≡ Some (codes "ea:p")
 unfolding selection_open
 least_prefix = refl
@@ -223,7 +243,8 @@ pub vocab_term : short prefixes (codes "http://v/name") true no_value ≡ Some (
 unfolding selection_open
 vocab_term = refl
 
-pub vocab_keyword : short prefixes (codes "http://v/@id") true no_value ≡ Some (codes "http://v/@id")
+pub vocab_keyword :
+    short prefixes (codes "http://v/@id") true no_value ≡ Some (codes "http://v/@id")
 unfolding selection_open
 vocab_keyword = refl
 
@@ -239,10 +260,12 @@ pub prefix_for_ids : short both_ways (codes "http://e/p") false no_value ≡ Som
 unfolding selection_open
 prefix_for_ids = refl
 
--- a compact IRI that is the name of a term: of another IRI it isn't used, and of this IRI only where there is no value
+-- a compact IRI that is the name of a term: of another IRI it isn't used, and of this IRI only
+-- where there is no value
 abbrev named_compact : List ℕ → TermTable
 named_compact stands_for =
-    table None (prefix (codes "ex") (codes "http://e/") ∷ term (codes "ex:p") stands_for None None container.NoContainer ∷ [])
+    table None (prefix (codes "ex") (codes "http://e/")
+    ∷ term (codes "ex:p") stands_for None None container.NoContainer ∷ [])
 
 pub other_compact : short (named_compact (codes "http://e/q")) iri false no_value ≡ Some iri
 unfolding selection_open
@@ -269,8 +292,8 @@ pub authority : short prefixes (codes "tag://x") false no_value ≡ Some (codes 
 unfolding selection_open
 authority = refl
 
--- what is compacted by these rules and read as something else: a rest with a colon, a rest of a keyword's form, `//` behind a prefix, and
--- an IRI that is the name of a term of another IRI
+-- what is compacted by these rules and read as something else: a rest with a colon, a rest of a
+-- keyword's form, `//` behind a prefix, and an IRI that is the name of a term of another IRI
 abbrev expanded : TermTable → Option (List ℕ) → Option (List ℕ)
 expanded terms None = None
 expanded terms (Some written) = expand terms written true
@@ -290,11 +313,16 @@ pub authority_behind_prefix : read_again prefixes (codes "http://e///p") ≡ Som
 unfolding selection_open expand has_keyword_form
 authority_behind_prefix = refl
 
-pub named_like_iri : read_again (table None (term (codes "foo:") iri None None container.NoContainer ∷ [])) (codes "foo:") ≡ Some iri
+pub named_like_iri :
+    read_again (table None (term (codes "foo:") iri None None container.NoContainer ∷ []))
+    (codes "foo:") ≡ Some iri
 unfolding selection_open expand has_keyword_form
 named_like_iri = refl
 
 -- an alias of a keyword
-pub alias : short_keyword (table None (term (codes "id") (codes "@id") None None container.NoContainer ∷ [])) at_id ≡ codes "id"
+pub alias :
+    short_keyword
+    (table None (term (codes "id") (codes "@id") None None container.NoContainer ∷ [])) at_id
+    ≡ codes "id"
 unfolding selection_open
 alias = refl

@@ -1,5 +1,5 @@
--- The slots in which a term stands (JSON-LD 1.1 Processing Algorithms and API, section 4.3: an inverse context files each term
--- under its IRI, its container, and a language or a type).
+-- The slots in which a term stands (JSON-LD 1.1 Processing Algorithms and API, section 4.3: an
+-- inverse context files each term under its IRI, its container, and a language or a type).
 use Rattle.std.specs.Prelude.{List, [], ◌∷◌, ℕ, Bool, true, false, ◌&&◌, Option, Some, None, if◌then◌else◌}
 use Rattle.lf_rdf.specs.Equality.{text_eq}
 use Rattle.lf_model.specs.declared.table.TermTable.{TermTable}
@@ -27,9 +27,11 @@ kind_eq _ _ = false
 abbrev pub slot_eq : Slot → Slot → Bool
 slot_eq a b = kind_eq a.kind b.kind && text_eq a.name b.name
 
--- a term without a coercion and a language of its own: the table's language, if any, no language and no type
+-- a term without a coercion and a language of its own: the table's language, if any, no language
+-- and no type
 abbrev pub unmapped_slots : Option (List ℕ) → List Slot
-unmapped_slots (Some language) = slot LanguageKind language ∷ slot LanguageKind at_none ∷ slot TypeKind at_none ∷ []
+unmapped_slots (Some language) =
+    slot LanguageKind language ∷ slot LanguageKind at_none ∷ slot TypeKind at_none ∷ []
 unmapped_slots None = slot LanguageKind at_none ∷ slot TypeKind at_none ∷ []
 
 -- the language of its own, or null
@@ -40,7 +42,8 @@ language_slots None = slot LanguageKind at_null ∷ []
 -- the coercion `@none` is every language and every type
 abbrev pub coerced_slots : List ℕ → List Slot
 coerced_slots coercion =
-    if text_eq coercion at_none then slot LanguageKind at_any ∷ slot TypeKind at_any ∷ slot AnyKind at_any ∷ []
+    if text_eq coercion at_none
+    then slot LanguageKind at_any ∷ slot TypeKind at_any ∷ slot AnyKind at_any ∷ []
     else slot TypeKind coercion ∷ []
 
 -- by the coercion, else by the term's language, else by the table's language
@@ -49,7 +52,8 @@ mapped_slots default (Some coercion) _ = coerced_slots coercion
 mapped_slots default None (Some language) = language_slots language
 mapped_slots default None None = unmapped_slots default
 
--- the slots of a term that has an IRI: a reverse term stands in one, and every other term also in (any, `@none`)
+-- the slots of a term that has an IRI: a reverse term stands in one, and every other term also in
+-- (any, `@none`)
 abbrev pub slots : TermTable → TermDef → List Slot
 slots table term =
     if term.reverse then slot TypeKind at_reverse ∷ []

@@ -27,7 +27,8 @@ pub fn only_confused()
     ensures { OnlyConfused }
 {}
 
-/// Expansion of a compacted IRI gives the IRI back, where the text is read as what it was written for.
+/// Expansion of a compacted IRI gives the IRI back, where the text is read as what it was written
+/// for.
 pub fn expansion_gives_back()
     ensures { ExpansionGivesBack }
 {}

@@ -6,8 +6,8 @@ use lf_base::{ListOf, Memory, Text, TextList};
 use lf_model::Container;
 use std::alloc::Global;
 
-/// Which mapping of a term is looked at when a term is chosen (JSON-LD 1.1 Processing Algorithms and API, section 4.3:
-/// the maps `@any`, `@language` and `@type` of an inverse context).
+/// Which mapping of a term is looked at when a term is chosen (JSON-LD 1.1 Processing Algorithms
+/// and API, section 4.3: the maps `@any`, `@language` and `@type` of an inverse context).
 #[derive(Clone, Copy, Debug, PartialEq, Eq)]
 pub enum PickKind {
     AnyKind,
@@ -18,8 +18,8 @@ pub enum PickKind {
 /// A list of containers.
 pub type ContainerList = ListOf<Container>;
 
-/// What an IRI and a value ask of a term (JSON-LD 1.1 Processing Algorithms and API, section 6.3, term selection):
-/// the containers in order, and in each the preferred languages or types in order.
+/// What an IRI and a value ask of a term (JSON-LD 1.1 Processing Algorithms and API, section 6.3,
+/// term selection): the containers in order, and in each the preferred languages or types in order.
 #[derive(Debug, Drop)]
 pub struct Pick {
     pub containers: ContainerList,

@@ -18,11 +18,15 @@ NextIsFirst =
 abbrev pub NobodyWaits : Type 0
 NobodyWaits =
     (away : List ℕ) (history : List Operation)
-    → (waiting away history ≡ [] → next_frame away history ≡ None) × (next_frame away history ≡ None → waiting away history ≡ [])
+    →
+    (waiting away history ≡ [] → next_frame away history ≡ None)
+    × (next_frame away history ≡ None → waiting away history ≡ [])
 
--- a board whose version is at most the newest may be given back: the history with what that adds is legal
+-- a board whose version is at most the newest may be given back: the history with what that adds is
+-- legal
 abbrev pub GivenBackIsAllowed : Type 0
 GivenBackIsAllowed =
-    (accepts : List ℕ → Bool) (history : List Operation) (name : List ℕ) (number : ℕ) (version : Option ℕ)
+    (accepts : List ℕ → Bool) (history : List Operation) (name : List ℕ) (number : ℕ)
+    (version : Option ℕ)
     → IsLegal accepts history → ((reached : ℕ) → version ≡ Some reached → reached ≤ commits history)
     → IsLegal accepts (history ++ entry_of (given_back history name number version))

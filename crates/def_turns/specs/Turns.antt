@@ -1,5 +1,6 @@
--- Turns: a frame waits where its published document is older than the newest version and its board isn't away. The next
--- one is that with the oldest document; and what comes of a board that is given back.
+-- Turns: a frame waits where its published document is older than the newest version and its board
+-- isn't away. The next one is that with the oldest document; and what comes of a board that is
+-- given back.
 use Rattle.std.specs.Prelude.{List, [], ◌∷◌, ℕ, nat_eq, nat_lt, Bool, true, ◌&&◌, not, if◌then◌else◌, Option, Some, None}
 use Rattle.std.specs.List.{filter, fold, list_any}
 use Rattle.std.specs.Option.{option_cmp}
@@ -35,7 +36,8 @@ waiting away history = filter (waits away (commits history)) (live_frames histor
 
 -- the texts away that are still live
 abbrev pub is_live : List Operation → ℕ → Bool
-is_live history number = list_any (λ (frame : Live). nat_eq frame.number number) (live_frames history)
+is_live history number =
+    list_any (λ (frame : Live). nat_eq frame.number number) (live_frames history)
 
 abbrev pub still_live : List Operation → List ℕ → List ℕ
 still_live history away = filter (is_live history) away
@@ -44,7 +46,8 @@ still_live history away = filter (is_live history) away
 
 -- the older published version comes first, none before all; among equals the lesser name
 abbrev pub turn_cmp : Live → Live → Ordering
-turn_cmp one two = ordering_then (option_cmp nat_cmp one.published two.published) (slice_cmp nat_cmp one.name two.name)
+turn_cmp one two = ordering_then (option_cmp nat_cmp one.published two.published)
+    (slice_cmp nat_cmp one.name two.name)
 
 -- a frame stands before another
 abbrev pub is_before : Live → Live → Bool

@@ -23,9 +23,11 @@ abbrev pub nothing : Patch
 nothing = record { lines = []; bytes = 0 }
 
 abbrev pub frame : List ℕ → ℕ → Option ℕ → Live
-frame name number published = record { name = name; number = number; text = all; published = published }
+frame name number published =
+    record { name = name; number = number; text = all; published = published }
 
--- two frames, of which the second was published at version 0 and the first not at all; then a commit
+-- two frames, of which the second was published at version 0 and the first not at all; then a
+-- commit
 abbrev pub two : List Operation
 two = Register 1 b all ∷ Register 1 a all ∷ Publish a 0 ∷ Commit 1 nothing ∷ []
 
@@ -45,19 +47,26 @@ least_name = refl
 pub idle : next_frame [] (Register 1 a all ∷ Commit 1 nothing ∷ Publish a 1 ∷ []) ≡ None
 idle = refl
 
--- a board whose text was registered anew in the meantime is superseded, also where its frame has a newer number
-pub superseded : given_back (Register 1 a all ∷ Commit 1 nothing ∷ Register 1 a other ∷ []) a 1 (Some 1) ≡ t.Superseded a 1 (Some 2)
+-- a board whose text was registered anew in the meantime is superseded, also where its frame has a
+-- newer number
+pub superseded :
+    given_back (Register 1 a all ∷ Commit 1 nothing ∷ Register 1 a other ∷ []) a 1 (Some 1)
+    ≡ t.Superseded a 1 (Some 2)
 superseded = refl
 
 pub retired : given_back (Register 1 a all ∷ Retire 1 a ∷ []) a 1 (Some 0) ≡ t.Superseded a 1 None
 retired = refl
 
 -- it is published under its own version, also where that isn't the newest
-pub own_version : given_back (Register 1 a all ∷ Commit 1 nothing ∷ Commit 1 nothing ∷ []) a 1 (Some 1) ≡ t.Published a 1
+pub own_version :
+    given_back (Register 1 a all ∷ Commit 1 nothing ∷ Commit 1 nothing ∷ []) a 1 (Some 1)
+    ≡ t.Published a 1
 own_version = refl
 
 -- and not where one as new is published already
-pub at_home : given_back (Register 1 a all ∷ Commit 1 nothing ∷ Publish a 1 ∷ []) a 1 (Some 1) ≡ t.Home a (Some 1)
+pub at_home :
+    given_back (Register 1 a all ∷ Commit 1 nothing ∷ Publish a 1 ∷ []) a 1 (Some 1)
+    ≡ t.Home a (Some 1)
 at_home = refl
 
 pub unturned : given_back (Register 1 a all ∷ []) a 1 None ≡ t.Home a None

@@ -1,4 +1,5 @@
-//! Turns: which frame is brought to the newest version next, and what comes of a board that is given back.
+//! Turns: which frame is brought to the newest version next, and what comes of a board that is
+//! given back.
 #![tactic(auto)]
 
 mod laws;

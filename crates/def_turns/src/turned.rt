@@ -11,12 +11,14 @@ pub enum Turned {
         frame: Text,
         version: u64,
     },
-    /// The board is at home again, with the version that it has. That isn't newer than the published one.
+    /// The board is at home again, with the version that it has. That isn't newer than the
+    /// published one.
     Home {
         frame: Text,
         version: Option<u64>,
     },
-    /// The board's text is no longer live under its name. `then` is its text number, and `now` the live one.
+    /// The board's text is no longer live under its name. `then` is its text number, and `now` the
+    /// live one.
     Superseded {
         frame: Text,
         then: u64,

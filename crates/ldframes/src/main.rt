@@ -1,4 +1,5 @@
-//! The program `ldframes`: `main` makes the real streams and runs its words on a thread of its own, for its stack.
+//! The program `ldframes`: `main` makes the real streams and runs its words on a thread of its own,
+//! for its stack.
 #![tactic(auto)]
 
 use lf_app::{NO_MEMORY, STACK_BYTES, run_program};

@@ -1,5 +1,5 @@
--- What `frame`, `check` and refused words come to. The conditions are tried in this order: the words, the frame file, the frame,
--- the data files one after another, the document.
+-- What `frame`, `check` and refused words come to. The conditions are tried in this order: the
+-- words, the frame file, the frame, the data files one after another, the document.
 use Rattle.std.specs.Prelude.{◌≡◌, ◌⊎◌, ◌≤◌, List, [], ◌∷◌, ℕ, length, Option, Some, None, Result, Ok, Err}
 use Rattle.lf_rdf.specs.declared.quad.Patch.{Patch}
 use Rattle.lf_model.specs.declared.desk.Counted.TheVariants as counted
@@ -82,14 +82,16 @@ RefusesPatch history patch _ = ⊥
 -- A data file isn't committed.
 abbrev pub Refuses : Option Files → List ℕ → List Operation → Answer → Type 0
 Refuses files file history answer =
-    RefusesData files file answer ⊎ ((patch : Patch) × HoldsPatch files file patch × RefusesPatch history patch answer)
+    RefusesData files file answer
+    ⊎ ((patch : Patch) × HoldsPatch files file patch × RefusesPatch history patch answer)
 
 -- One of the data files isn't committed, and those before it are.
 abbrev pub RefusesOne : Option Files → List (List ℕ) → List Operation → Answer → Type 0
 RefusesOne files [] history answer = ⊥
 RefusesOne files (file ∷ rest) history answer =
     Refuses files file history answer
-    ⊎ ((later : List Operation) × IsCommitted files file history later × RefusesOne files rest later answer)
+    ⊎ ((later : List Operation) × IsCommitted files file history later
+    × RefusesOne files rest later answer)
 
 -- the document, or the error or the limit that stands in its place
 abbrev pub answer_by : List ℕ → Doc → Answer
@@ -116,9 +118,11 @@ GoesOn files file data_files answer =
 -- what a command comes to; `session` has no answer of its own
 abbrev pub AnswersTo : Option Files → Option Command → Answer → Type 0
 AnswersTo files None answer = answer ≡ usage
-AnswersTo files (Some (frame file data_files)) answer = RefusesFrame files file answer ⊎ GoesOn files file data_files answer
+AnswersTo files (Some (frame file data_files)) answer =
+    RefusesFrame files file answer ⊎ GoesOn files file data_files answer
 AnswersTo files (Some (check file)) answer =
-    RefusesFrame files file answer ⊎ ((answer ≡ accepted) × ((text : List ℕ) × HoldsFrame files file text))
+    RefusesFrame files file answer
+    ⊎ ((answer ≡ accepted) × ((text : List ℕ) × HoldsFrame files file text))
 AnswersTo files (Some session) answer = ⊥
 
 -- what words come to

@@ -33,19 +33,24 @@ Stays before after = (before < most_faults) × (after ≡ before)
 
 -- the document was printed
 abbrev pub PrintsDocument : Run → List ℕ → Type 0
-PrintsDocument run text = (run.status ≡ 0) × (run.held_after ≡ appended run.held_before (text ++ 10 ∷ []))
+PrintsDocument run text =
+    (run.status ≡ 0) × (run.held_after ≡ appended run.held_before (text ++ 10 ∷ []))
 
--- Such files are framed, unless no memory was found, a write failed, or a file that is there can't be read.
+-- Such files are framed, unless no memory was found, a write failed, or a file that is there can't
+-- be read.
 abbrev pub FilesAreFramed : Type 0
 FilesAreFramed =
-    (run : Run) (files : Files) (text : List ℕ) → IsRun run → run.files ≡ Some files → AreFramed files run.words text
+    (run : Run) (files : Files) (text : List ℕ) → IsRun run → run.files ≡ Some files →
+    AreFramed files run.words text
     → Stays run.writes_before run.writes_after → Stays run.there_before run.there_after
     → PrintsDocument run text ⊎ (run.status ≡ 9)
 
--- A session over whole messages with accepted heads ends well, unless no memory was found or a read or a write failed.
+-- A session over whole messages with accepted heads ends well, unless no memory was found or a read
+-- or a write failed.
 abbrev pub SessionsEndWell : Type 0
 SessionsEndWell =
-    (run : Run) (messages : List Message) → IsRun run → is_session (command_of run.words) ≡ true → All IsWholeMessage messages
+    (run : Run) (messages : List Message) → IsRun run → is_session (command_of run.words) ≡ true →
+    All IsWholeMessage messages
     → run.left_before ≡ Some (all_bytes messages)
     → Stays run.reads_before run.reads_after → Stays run.writes_before run.writes_after
     → (run.status ≡ 0) ⊎ (run.status ≡ 9)

@@ -35,14 +35,16 @@ pub record HoldsPatch (files : Option Files) (name : List ℕ) (patch : Patch) :
   pub sized : patch.bytes ≡ length bytes
 
 -- The file may hold a text whose first bad line has this number and kind.
-pub record HoldsBadLine (files : Option Files) (name : List ℕ) (line : ℕ) (kind : LineKind) : Type 0 where
+pub record HoldsBadLine (files : Option Files) (name : List ℕ) (line : ℕ) (kind : LineKind) :
+    Type 0 where
   pub bytes : List ℕ
   pub held : MayHold files name bytes
   pub within : length bytes ≤ text_limit
   pub bad : IsBadLine bytes line kind
 
 -- The patch of the file is committed as the next version.
-pub record IsCommitted (files : Option Files) (name : List ℕ) (before after : List Operation) : Type 0 where
+pub record IsCommitted (files : Option Files) (name : List ℕ) (before after : List Operation) :
+    Type 0 where
   pub patch : Patch
   pub version : ℕ
   pub holds : HoldsPatch files name patch
@@ -53,4 +55,5 @@ pub record IsCommitted (files : Option Files) (name : List ℕ) (before after : 
 abbrev pub AreCommitted : Option Files → List (List ℕ) → List Operation → List Operation → Type 0
 AreCommitted files [] before after = after ≡ before
 AreCommitted files (name ∷ names) before after =
-    (middle : List Operation) × IsCommitted files name before middle × AreCommitted files names middle after
+    (middle : List Operation) × IsCommitted files name before middle
+    × AreCommitted files names middle after

@@ -9,8 +9,10 @@ IsCaused files (cannot_read file) = files file ≡ None
 IsCaused files no_memory = ⊥
 IsCaused files _ = Unit {0}
 
--- Where the files are told, words come to one answer. So each answer comes exactly where its condition holds.
+-- Where the files are told, words come to one answer. So each answer comes exactly where its
+-- condition holds.
 abbrev pub EachRunSaysOneThing : Type 0
 EachRunSaysOneThing =
     (files : Files) (words : List (List ℕ)) (one two : Answer)
-    → Comes (Some files) words one → Comes (Some files) words two → IsCaused files one → IsCaused files two → one ≡ two
+    → Comes (Some files) words one → Comes (Some files) words two → IsCaused files one →
+    IsCaused files two → one ≡ two

@@ -1,4 +1,5 @@
--- A run of the word `session`: one stream, served from the empty history on by a seat that is alone.
+-- A run of the word `session`: one stream, served from the empty history on by a seat that is
+-- alone.
 use Rattle.std.specs.Prelude.{◌≡◌, List, [], ℕ, Bool, true, false, Option, Some, None}
 use Rattle.def_histories.specs.declared.operation.Operation.{Operation}
 use Rattle.lf_session.specs.declared.ended.Ended.{Ended}
@@ -13,8 +14,9 @@ use Rattle.lf_app.specs.Holding.{session_seat}
 use Rattle.lf_app.specs.Answers.{Answer}
 use Rattle.lf_app.specs.Runs.{Run, Says}
 
--- What was read and sent is a session, and its caller can trust the documents, each of one version that was committed and no
--- older than any that it had seen. Its turns publish the frame that is next, and are answered that none waits where none does.
+-- What was read and sent is a session, and its caller can trust the documents, each of one version
+-- that was committed and no older than any that it had seen. Its turns publish the frame that is
+-- next, and are answered that none waits where none does.
 pub record RunsSession (told : Told) (end : Ended) : Type 0 where
   pub after : List Operation
   pub boards : Boards

@@ -54,7 +54,8 @@ texts_of (bad_line file line kind) =
     file ∷ codes " line " ∷ decimal line ∷ codes ": " ∷ kind_name kind ∷ codes "\n" ∷ []
 texts_of (bad_frame file why) = file ∷ codes ": " ∷ fault_name why ∷ codes "\n" ∷ []
 texts_of (over limit) =
-    codes "limit: " ∷ passed_name limit ∷ codes " " ∷ decimal (passed_number limit) ∷ codes "\n" ∷ []
+    codes "limit: " ∷ passed_name limit ∷ codes " " ∷ decimal (passed_number limit) ∷ codes "\n"
+    ∷ []
 texts_of accepted = codes "ok" ∷ codes "\n" ∷ []
 texts_of (document text) = text ∷ codes "\n" ∷ []
 texts_of no_memory = []

@@ -5,7 +5,8 @@ use Rattle.std.specs.Cmp.Lexicographic.{pointwise}
 use Rattle.lf_app.specs.declared.words.Command.{Command as ReadCommand}
 use Rattle.lf_app.specs.declared.words.Command.TheVariants as read
 
--- A frame file and one or more data files are framed, a frame file is checked, or one stream is served. Files go by their words.
+-- A frame file and one or more data files are framed, a frame file is checked, or one stream is
+-- served. Files go by their words.
 pub data Command : Type 0 where
   frame : List ℕ → List (List ℕ) → Command
   check : List ℕ → Command

@@ -1,4 +1,5 @@
-//! What a run of `frame`, `check` or refused words has to say. The readers of files make these values, and `print` prints them.
+//! What a run of `frame`, `check` or refused words has to say. The readers of files make these
+//! values, and `print` prints them.
 use def_patch_texts::LineKind;
 use lf_base::Text;
 use lf_model::{LdError, Limit};

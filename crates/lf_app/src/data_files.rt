@@ -82,7 +82,8 @@ fn commit_file<'a, F: Shelf>(
     state: &mut State,
 ) -> Result<(), Said<'a>>
     ensures committed { OnOk result (IsCommitted (F.files shelf.old) file.now state.old.history state.new.history) }
-    ensures refused { IfErr result (λ said. Refuses (F.files shelf.old) file.now state.old.history (answer_of said)) }
+    ensures refused { IfErr result
+        (λ said. Refuses (F.files shelf.old) file.now state.old.history (answer_of said)) }
     ensures files { F.files shelf.new ≡ F.files shelf.old }
     ensures faults { F.faults shelf.new ≡ faults_by (F.faults shelf.old) result }
     ensures refusals { F.refusals shelf.new ≡ refusals_by (F.files shelf.old) (F.refusals shelf.old) result }
@@ -100,8 +101,11 @@ pub fn commit_files<'a, F: Shelf>(
     files: &'a [String],
     state: &mut State,
 ) -> Result<(), Said<'a>>
-    ensures committed { OnOk result (AreCommitted (F.files shelf.old) (map string_bytes files.now) state.old.history state.new.history) }
-    ensures refused { IfErr result (λ said. RefusesOne (F.files shelf.old) (map string_bytes files.now) state.old.history (answer_of said)) }
+    ensures committed { OnOk result (AreCommitted (F.files shelf.old) (map string_bytes files.now) state.old.history
+        state.new.history) }
+    ensures refused { IfErr result (λ said.
+        RefusesOne (F.files shelf.old) (map string_bytes files.now) state.old.history
+        (answer_of said)) }
     ensures files { F.files shelf.new ≡ F.files shelf.old }
     ensures faults { F.faults shelf.new ≡ faults_by (F.faults shelf.old) result }
     ensures refusals { F.refusals shelf.new ≡ refusals_by (F.files shelf.old) (F.refusals shelf.old) result }

@@ -1,4 +1,5 @@
-//! The words `frame` and `check`: a frame file, data files, and the document. `run_words` calls them.
+//! The words `frame` and `check`: a frame file, data files, and the document. `run_words` calls
+//! them.
 ghost use Rattle.std.specs.Prelude.{◌≡◌, ◌∷◌, [], map, string_bytes, Some};
 ghost use Rattle.def_contexts.specs.FrameValues.{frame_meaning};
 ghost use Rattle.def_histories.specs.Replay.{newest_dataset};
@@ -19,7 +20,8 @@ use std::alloc::Global;
 
 // The document of a frame over the newest version, or what stands in its place.
 fn document_said<'a>(alloc: Global, file: &'a str, frame: &Frame, state: &State) -> Said<'a>
-    ensures { IsOr (answer_by file.now (scratch_frame frame.now (newest_dataset state.now.history))) (answer_of result) }
+    ensures { IsOr (answer_by file.now (scratch_frame frame.now (newest_dataset state.now.history)))
+        (answer_of result) }
 {
     match state.document(alloc, frame) {
         Ok(Doc::Bytes(text)) => Said::Document(text),
@@ -41,10 +43,12 @@ fn frame_data<'a, F: Shelf>(
     frame: &Frame,
     state: &mut State,
 ) -> Said<'a>
-    ensures frames { FramesOver (F.files shelf.old) file.now (map string_bytes files.now) frame.now state.old.history (answer_of result) }
+    ensures frames { FramesOver (F.files shelf.old) file.now (map string_bytes files.now) frame.now
+        state.old.history (answer_of result) }
     ensures files { F.files shelf.new ≡ F.files shelf.old }
     ensures faults { F.faults shelf.new ≡ faults_after (F.faults shelf.old) (answer_of result) }
-    ensures refusals { F.refusals shelf.new ≡ refusals_after (F.files shelf.old) (F.refusals shelf.old) (answer_of result) }
+    ensures refusals { F.refusals shelf.new
+        ≡ refusals_after (F.files shelf.old) (F.refusals shelf.old) (answer_of result) }
 {
     match commit_files(alloc, shelf, files, state) {
         Ok(()) => document_said(alloc, file, frame, state),
@@ -60,10 +64,12 @@ fn frame_from_nothing<'a, F: Shelf>(
     files: &'a [String],
     frame: &Frame,
 ) -> Said<'a>
-    ensures frames { FramesOver (F.files shelf.old) file.now (map string_bytes files.now) frame.now [] (answer_of result) }
+    ensures frames { FramesOver (F.files shelf.old) file.now (map string_bytes files.now) frame.now []
+        (answer_of result) }
     ensures files { F.files shelf.new ≡ F.files shelf.old }
     ensures faults { F.faults shelf.new ≡ faults_after (F.faults shelf.old) (answer_of result) }
-    ensures refusals { F.refusals shelf.new ≡ refusals_after (F.files shelf.old) (F.refusals shelf.old) (answer_of result) }
+    ensures refusals { F.refusals shelf.new
+        ≡ refusals_after (F.files shelf.old) (F.refusals shelf.old) (answer_of result) }
 {
     match State::new(alloc) {
         Ok(mut state) => {
@@ -75,18 +81,21 @@ fn frame_from_nothing<'a, F: Shelf>(
     }
 }
 
-/// What `frame` has to say: the document of the frame file over the data files, applied in order to the empty dataset, or what
-/// stands in its place. The files are read one after another, the frame file first.
+/// What `frame` has to say: the document of the frame file over the data files, applied in order to
+/// the empty dataset, or what stands in its place. The files are read one after another, the frame
+/// file first.
 pub fn frame_files<'a, F: Shelf>(
     alloc: Global,
     shelf: &mut F,
     file: &'a str,
     files: &'a [String],
 ) -> Said<'a>
-    ensures answers { AnswersTo (F.files shelf.old) (Some (frame file.now (map string_bytes files.now))) (answer_of result) }
+    ensures answers { AnswersTo (F.files shelf.old) (Some (frame file.now (map string_bytes files.now)))
+        (answer_of result) }
     ensures files { F.files shelf.new ≡ F.files shelf.old }
     ensures faults { F.faults shelf.new ≡ faults_after (F.faults shelf.old) (answer_of result) }
-    ensures refusals { F.refusals shelf.new ≡ refusals_after (F.files shelf.old) (F.refusals shelf.old) (answer_of result) }
+    ensures refusals { F.refusals shelf.new
+        ≡ refusals_after (F.files shelf.old) (F.refusals shelf.old) (answer_of result) }
 {
     match read_frame_file(alloc, shelf, file) {
         Ok(frame) => {
@@ -103,7 +112,8 @@ pub fn check_file<'a, F: Shelf>(alloc: Global, shelf: &mut F, file: &'a str) -> 
     ensures answers { AnswersTo (F.files shelf.old) (Some (check file.now)) (answer_of result) }
     ensures files { F.files shelf.new ≡ F.files shelf.old }
     ensures faults { F.faults shelf.new ≡ faults_after (F.faults shelf.old) (answer_of result) }
-    ensures refusals { F.refusals shelf.new ≡ refusals_after (F.files shelf.old) (F.refusals shelf.old) (answer_of result) }
+    ensures refusals { F.refusals shelf.new
+        ≡ refusals_after (F.files shelf.old) (F.refusals shelf.old) (answer_of result) }
 {
     match read_frame_file(alloc, shelf, file) {
         Ok(frame) => {

@@ -62,8 +62,10 @@ fn passed_number(limit: Passed) -> u64
 
 // Prints texts in a row, until a write fails.
 fn print_row<K: Sink>(output: &mut K, texts: &[&str]) -> Result<(), Failed>
-    ensures printed { OnOk result (K.held output.new ≡ appended (K.held output.old) (in_row (map (λ t. t.now) texts.now))) }
-    ensures cut_short { OnErr result (AddsPart (K.held output.old) (K.held output.new) (in_row (map (λ t. t.now) texts.now))) }
+    ensures printed { OnOk result
+        (K.held output.new ≡ appended (K.held output.old) (in_row (map (λ t. t.now) texts.now))) }
+    ensures cut_short { OnErr result
+        (AddsPart (K.held output.old) (K.held output.new) (in_row (map (λ t. t.now) texts.now))) }
     ensures cause { K.faults output.new ≡ count_after (K.faults output.old) result }
 {
     for text in texts {
@@ -85,8 +87,11 @@ fn print_texts<'t, K: Sink>(
     five: &'t str,
     six: &'t str,
 ) -> Result<(), Failed>
-    ensures printed { OnOk result (K.held output.new ≡ appended (K.held output.old) (in_row (six_texts one.now two.now three.now four.now five.now six.now))) }
-    ensures cut_short { OnErr result (AddsPart (K.held output.old) (K.held output.new) (in_row (six_texts one.now two.now three.now four.now five.now six.now))) }
+    ensures printed { OnOk result (K.held output.new
+        ≡ appended (K.held output.old)
+        (in_row (six_texts one.now two.now three.now four.now five.now six.now))) }
+    ensures cut_short { OnErr result (AddsPart (K.held output.old) (K.held output.new)
+        (in_row (six_texts one.now two.now three.now four.now five.now six.now))) }
     ensures cause { K.faults output.new ≡ count_after (K.faults output.old) result }
 {
     print_row(output, &[one, two, three, four, five, six])
@@ -95,8 +100,10 @@ fn print_texts<'t, K: Sink>(
 // Prints what a run has to say, until a write fails.
 #[tactic(auto, unfolding(crate::specs::Texts::usage_line))]
 fn print_said<K: Sink>(output: &mut K, said: &Said<'_>) -> Result<(), Failed>
-    ensures printed { OnOk result (K.held output.new ≡ appended (K.held output.old) (text_said (answer_of said.now))) }
-    ensures cut_short { OnErr result (AddsPart (K.held output.old) (K.held output.new) (text_said (answer_of said.now))) }
+    ensures printed { OnOk result
+        (K.held output.new ≡ appended (K.held output.old) (text_said (answer_of said.now))) }
+    ensures cut_short { OnErr result
+        (AddsPart (K.held output.old) (K.held output.new) (text_said (answer_of said.now))) }
     ensures cause { K.faults output.new ≡ count_after (K.faults output.old) result }
 {
     match said {
@@ -148,7 +155,8 @@ fn status_of(said: &Said<'_>) -> u8
 /// Prints what a run has to say, and gives its exit status.
 #[tactic(auto, using(crate::proofs::Rows::printed_whole, crate::proofs::Rows::printed_part))]
 pub fn tell<K: Sink>(output: &mut K, said: &Said<'_>) -> u8
-    ensures { IsPrinted result (answer_of said.now) (K.held output.old) (K.held output.new) (K.faults output.old) (K.faults output.new) }
+    ensures { IsPrinted result (answer_of said.now) (K.held output.old) (K.held output.new)
+        (K.faults output.old) (K.faults output.new) }
 {
     match print_said(output, said) {
         Ok(()) => status_of(said),

@@ -1,4 +1,5 @@
-//! What `main` does, over the runtime's words and files and the streams that it is handed. Each program's `main` calls it.
+//! What `main` does, over the runtime's words and files and the streams that it is handed. Each
+//! program's `main` calls it.
 
 use crate::run::run_words;
 use lf_io::{FileShelf, ReadSource, WriteSink};
@@ -10,9 +11,9 @@ use std::{env, io};
 /// The exit status for want of memory.
 pub const NO_MEMORY: u8 = 9;
 
-/// The bytes of stack that `main` gives the work. What is framed, compacted and printed by recursion is at most 65,536 levels deep,
-/// since each level is an item of a tree; a level takes some 1.2 KB in the deepest of these functions.
-/// Only what is used takes memory.
+/// The bytes of stack that `main` gives the work. What is framed, compacted and printed by
+/// recursion is at most 65,536 levels deep, since each level is an item of a tree; a level takes
+/// some 1.2 KB in the deepest of these functions. Only what is used takes memory.
 pub const STACK_BYTES: usize = 256 << 20;
 
 // The words behind the program's name.
@@ -22,7 +23,8 @@ fn words_behind_name<R: Env + AllocGlobal>(rt: &R) -> io::Result<Vec<String>> {
     Ok(words.collect(rt.alloc())?)
 }
 
-/// Runs the words that the process was started with, over its files and these streams, and gives its exit status.
+/// Runs the words that the process was started with, over its files and these streams, and gives
+/// its exit status.
 pub fn run_program<R: Env + Files + AllocGlobal, I: Read + Drop, O: Write + Drop>(
     rt: &R,
     input: I,

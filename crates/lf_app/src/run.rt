@@ -11,7 +11,8 @@ use crate::words::{Command, read_words};
 use lf_io::{Shelf, Sink, Source};
 use std::alloc::Global;
 
-/// Runs the words, and gives the exit status of the program. Nothing is printed before what a command has to say is known.
+/// Runs the words, and gives the exit status of the program. Nothing is printed before what a
+/// command has to say is known.
 pub fn run_words<S: Source, K: Sink, F: Shelf>(
     alloc: Global,
     words: &[String],
@@ -38,7 +39,8 @@ pub fn run_words<S: Source, K: Sink, F: Shelf>(
       there_after = F.refusals shelf.new;
     }) }
 
-    // Only `session` takes anything of the input, and only other words take files. No words change a file.
+    // Only `session` takes anything of the input, and only other words take files. No words change
+    // a file.
     ensures input { is_session (command_of (map string_bytes words.now)) ≡ false → input.new ≡ input.old }
     ensures shelf { is_session (command_of (map string_bytes words.now)) ≡ true → shelf.new ≡ shelf.old }
     ensures files { F.files shelf.new ≡ F.files shelf.old }

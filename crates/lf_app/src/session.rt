@@ -15,7 +15,12 @@ pub const SEAT: u64 = 0;
 /// Serves one stream from the empty history on.
 #[tactic(auto, using(crate::proofs::Sessions::runs_nothing, crate::proofs::Sessions::runs_session))]
 pub fn run_session<S: Source, K: Sink>(alloc: Global, input: &mut S, output: &mut K) -> Ended
-    ensures runs { RunsSession (record { left_before = S.left input.old; left_after = S.left input.new; held_before = K.held output.old; held_after = K.held output.new }) result }
+    ensures runs { RunsSession (record {
+      left_before = S.left input.old;
+      left_after = S.left input.new;
+      held_before = K.held output.old;
+      held_after = K.held output.new;
+    }) result }
     ensures reads { S.faults input.new ≡ reads_failed (S.faults input.old) result }
     ensures writes { K.faults output.new ≡ writes_failed (K.faults output.old) result }
 {

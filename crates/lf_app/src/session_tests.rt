@@ -114,7 +114,8 @@ fn is_answered(alloc: Global, input: &str, status: u8, wanted: &str) -> Result<b
     Ok(ended == status && sent.as_str() == wanted)
 }
 
-// Whether a request is answered by this line of status and what follows it, and the stream ends clean.
+// Whether a request is answered by this line of status and what follows it, and the stream ends
+// clean.
 fn is_refused(alloc: Global, input: &str, wanted: &str) -> Result<bool, Memory> {
     let whole = joined(alloc, &["HTTP/1.1 ", wanted])?;
     is_answered(alloc, input, 0, whole.as_str())
@@ -379,8 +380,8 @@ fn a_request_that_asks_to_close_is_the_last(rt: HostRuntime) -> Result<(), Fail>
     Ok(())
 }
 
-// So many bytes of the first session came: the end of the messages tried so far, whether one ends with the last byte that came,
-// and what is sent.
+// So many bytes of the first session came: the end of the messages tried so far, whether one ends
+// with the last byte that came, and what is sent.
 #[derive(Drop)]
 struct Came {
     bytes: usize,
@@ -515,8 +516,8 @@ fn turned(alloc: Global, version: char) -> Result<String, Memory> {
     Ok(text)
 }
 
-// What a turn published is an error, and the version that it has is told. Where the quad is deleted, the next turn publishes a
-// text.
+// What a turn published is an error, and the version that it has is told. Where the quad is
+// deleted, the next turn publishes a text.
 #[test]
 fn a_published_error_has_its_version(rt: HostRuntime) -> Result<(), Fail> {
     let alloc = rt.alloc();
@@ -669,7 +670,8 @@ fn turns_go_by_age_and_by_name(rt: HostRuntime) -> Result<(), Fail> {
     Ok(())
 }
 
-// The document of the newest version is an error, and the version that it has is told. Where the quad is deleted it is a text.
+// The document of the newest version is an error, and the version that it has is told. Where the
+// quad is deleted it is a text.
 #[test]
 fn an_error_of_a_document_has_its_version(rt: HostRuntime) -> Result<(), Fail> {
     let alloc = rt.alloc();

@@ -22,8 +22,8 @@ pub struct Files<'a> {
     pub more: &'a str,
 }
 
-/// How the outside behaves: the bytes that the output has room for, the length of the pieces that it takes, and which of its
-/// calls and of the shelf's fail.
+/// How the outside behaves: the bytes that the output has room for, the length of the pieces that
+/// it takes, and which of its calls and of the shelf's fail.
 #[derive(Clone, Copy)]
 pub struct Outside {
     pub room: usize,
@@ -204,7 +204,8 @@ fn words_beside_the_lists_are_refused(rt: HostRuntime) -> Result<(), Fail> {
     Ok(())
 }
 
-// The conditions are tried in order: the words, the frame file, the frame, the data files one after another, the document.
+// The conditions are tried in order: the words, the frame file, the frame, the data files one after
+// another, the document.
 #[test]
 fn the_first_condition_decides(rt: HostRuntime) -> Result<(), Fail> {
     let alloc = rt.alloc();
@@ -270,8 +271,8 @@ fn files_fail(rt: HostRuntime) -> Result<(), Fail> {
     Ok(())
 }
 
-// Whether a run over an output that takes one byte at a time prints as far as the output goes, wherever that fails, and then
-// ends with status 4.
+// Whether a run over an output that takes one byte at a time prints as far as the output goes,
+// wherever that fails, and then ends with status 4.
 fn is_printed_in_parts(
     alloc: Global,
     words: &[&str],

@@ -91,8 +91,8 @@ fn named<'a>(name: &str, words: &'a [String]) -> Option<Command<'a>>
     None
 }
 
-/// What the words ask for. They are refused exactly where they are none of the lists of words that there are, or one of them
-/// begins with `-`. Takes no memory.
+/// What the words ask for. They are refused exactly where they are none of the lists of words that
+/// there are, or one of them begins with `-`. Takes no memory.
 pub fn read_words(words: &[String]) -> Option<Command<'_>>
     ensures { option_map command_read result ≡ command_of (map string_bytes words.now) }
 {

@@ -1,5 +1,5 @@
--- A board holds a frame and, once it was turned, a version: what the frame gives for each term of that version's dataset,
--- and its document (JSON-LD 1.1 Framing, section 4).
+-- A board holds a frame and, once it was turned, a version: what the frame gives for each term of
+-- that version's dataset, and its document (JSON-LD 1.1 Framing, section 4).
 use Rattle.std.specs.Prelude.{◌≡◌, List, ℕ, length, map, Option, None, Some}
 use Rattle.std.specs.Arc.{arc_value}
 use Rattle.lf_rdf.specs.declared.quad.Signed.{Signed}
@@ -55,7 +55,9 @@ MayTurn shown commits = IsPrefixIfSome (patches_by shown.version) (lines_of comm
 
 -- one outcome for each term of a version's dataset, in order, and the document of these
 pub record IsOf (frame : Frame) (made : Evaluated) : Type 0 where
-  pub outcomes : map outcome_data made.outcomes ≡ map (outcome (of_dataset (dataset made.version)) frame) (terms (dataset made.version))
+  pub outcomes :
+      map outcome_data made.outcomes
+      ≡ map (outcome (of_dataset (dataset made.version)) frame) (terms (dataset made.version))
   pub doc : arc_value made.doc ≡ scratch_frame frame (dataset made.version)
 
 abbrev pub IsOfIfSome : Frame → Option Evaluated → Type 0

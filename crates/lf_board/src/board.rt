@@ -16,10 +16,12 @@ use std::marker::Model;
 use std::sync::Arc;
 use std::sync::ledger::Ledger;
 
-/// The working record of one frame. Contracts see the frame, and the version that it was turned to, if it was. By its type
-/// it has one outcome for each term of that version's dataset, and the frame's document over it, from scratch.
+/// The working record of one frame. Contracts see the frame, and the version that it was turned to,
+/// if it was. By its type it has one outcome for each term of that version's dataset, and the
+/// frame's document over it, from scratch.
 ///
-/// It has two handles of the document, so that who keeps it may publish the document without taking memory.
+/// It has two handles of the document, so that who keeps it may publish the document without taking
+/// memory.
 #[derive(Drop)]
 pub struct Board {
     home: HomeBoard,
@@ -63,8 +65,9 @@ impl Board {
         }
     }
 
-    /// Turns it to a version, which its own commits begin. Then it has the frame's document over that version. On `Memory`
-    /// it is as it was. So far each term is evaluated and none is carried.
+    /// Turns it to a version, which its own commits begin. Then it has the frame's document over
+    /// that version. On `Memory` it is as it was. So far each term is evaluated and none is
+    /// carried.
     pub fn turn<L: Ledger>(
         &mut self,
         alloc: Global,

@@ -38,7 +38,8 @@ fn outcomes_over<L: Ledger>(
     terms: &TermList,
     steps: &mut Steps<L>,
 ) -> Result<OutcomeList, Memory>
-    ensures { IfOk result (λ outcomes. map outcome_data outcomes ≡ map (outcome (of_dataset index.now) frame.now) terms.now) }
+    ensures { IfOk result (λ outcomes.
+        map outcome_data outcomes ≡ map (outcome (of_dataset index.now) frame.now) terms.now) }
 {
     let mut nodes = KeptNodes::new(alloc, index.asker());
     outcomes_of(alloc, &mut nodes, frame, terms, steps)

@@ -16,8 +16,8 @@ use std::marker::Model;
 use std::sync::Arc;
 use std::sync::ledger::Ledger;
 
-/// A board without the second handle of its document. Contracts see its frame, and the version that it was turned to, if
-/// it was.
+/// A board without the second handle of its document. Contracts see its frame, and the version that
+/// it was turned to, if it was.
 #[derive(Drop)]
 pub struct HomeBoard {
     frame: Frame,
@@ -88,8 +88,8 @@ impl HomeBoard {
         }
     }
 
-    /// Turns it to a version, and gives the terms that were evaluated and one handle more of its document. On `Memory` it
-    /// is as it was.
+    /// Turns it to a version, and gives the terms that were evaluated and one handle more of its
+    /// document. On `Memory` it is as it was.
     #[tactic(auto, using(crate::proofs::Documents::doc_is))]
     pub fn turn<L: Ledger>(
         &mut self,

@@ -1,4 +1,5 @@
-//! A board from version to version: the documents of a worked row, by hand-made values of its frame.
+//! A board from version to version: the documents of a worked row, by hand-made values of its
+//! frame.
 ghost use Rattle.std.specs.Prelude.{◌≡◌, ◌<◌, OnOk};
 ghost use Rattle.def_histories.specs.Jobs.{IsPrefix};
 ghost use Rattle.lf_versions.specs.Commits.{lines_of};
@@ -91,7 +92,8 @@ fn has_text(board: &Board, text: &str) -> bool {
     }
 }
 
-// Turns a board to a version, and says whether it then has this document and evaluated so many terms.
+// Turns a board to a version, and says whether it then has this document and evaluated so many
+// terms.
 fn turns_to<L: Ledger>(
     alloc: Global,
     board: &mut Board,

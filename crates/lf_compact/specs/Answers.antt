@@ -33,7 +33,9 @@ AddsEntries before after added =
     (entries : List (List ℕ × JsonValue)) → Hold before entries → Hold after (entries ++ added)
 
 -- the members hold the definition's entries beside those before, or there are none
-abbrev pub AddsAll : Result (Unit {0}) CompactErr → Members → Members → Option (List (List ℕ × JsonValue)) → Type 0
-AddsAll (Ok _) before after answer = (added : List (List ℕ × JsonValue)) × (answer ≡ Some added) × AddsEntries before after added
+abbrev pub AddsAll :
+    Result (Unit {0}) CompactErr → Members → Members → Option (List (List ℕ × JsonValue)) → Type 0
+AddsAll (Ok _) before after answer =
+    (added : List (List ℕ × JsonValue)) × (answer ≡ Some added) × AddsEntries before after added
 AddsAll (Err (e.Ld error)) before after answer = (answer ≡ None) × (error ≡ IriConfusedWithPrefix)
 AddsAll (Err e.Memory) before after answer = Unit {0}

@@ -19,8 +19,10 @@ if_any (first ∷ rest) = Some (first ∷ rest)
 
 -- the groups hold these entries, read by a function
 abbrev pub Hold : {T D : Type 0} → (T → D) → Groups T → List (List ℕ × D) → Type 0
-Hold read groups entries = (key : List ℕ) → option_map (map read) (list_at groups key) ≡ if_any (under key entries)
+Hold read groups entries =
+    (key : List ℕ) → option_map (map read) (list_at groups key) ≡ if_any (under key entries)
 
 -- the groups hold these entries beside those before
 abbrev pub PutsAll : {T D : Type 0} → (T → D) → Groups T → Groups T → List (List ℕ × D) → Type 0
-PutsAll {T} {D} read before after added = (entries : List (List ℕ × D)) → Hold read before entries → Hold read after (entries ++ added)
+PutsAll {T} {D} read before after added =
+    (entries : List (List ℕ × D)) → Hold read before entries → Hold read after (entries ++ added)

@@ -45,7 +45,8 @@ Members = BTreeMap (List ℕ) Joined
 -- the members hold these entries
 abbrev pub Hold : Members → List (List ℕ × JsonValue) → Type 0
 Hold members entries =
-    (key : List ℕ) → option_map joined_data (get (slice_cmp nat_cmp) members key) ≡ join (under key entries)
+    (key : List ℕ) →
+    option_map joined_data (get (slice_cmp nat_cmp) members key) ≡ join (under key entries)
 
 -- what comes to be under a key
 abbrev pub with_more : Option Join → JsonValue → Join
@@ -59,4 +60,7 @@ joined_at members key = option_map joined_data (get (slice_cmp nat_cmp) members 
 -- a value was put under a key
 abbrev pub Adds : Members → Members → List ℕ → JsonValue → Type 0
 Adds before after key value =
-    (q : List ℕ) → joined_at after q ≡ (if text_eq key q then Some (with_more (joined_at before q) value) else joined_at before q)
+    (q : List ℕ) →
+    joined_at after q
+    ≡ (if text_eq key q then Some (with_more (joined_at before q) value)
+    else joined_at before q)

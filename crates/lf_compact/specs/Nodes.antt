@@ -36,8 +36,10 @@ short_type table class = do
 
 -- the entry of the types by their compacted names
 abbrev pub type_names_entry : TermTable → List JsonValue → List (List ℕ × JsonValue)
-type_names_entry table names =
-    (short_keyword table at_type, alone_or_array (types_in_array table (short_keyword table at_type)) names) ∷ []
+type_names_entry table names = (
+  short_keyword table at_type,
+  alone_or_array (types_in_array table (short_keyword table at_type)) names,
+) ∷ []
 
 -- the same, where there are any
 abbrev pub names_entry : TermTable → List JsonValue → List (List ℕ × JsonValue)
@@ -53,19 +55,24 @@ beginning table id types = do
 
 -- the members hold these entries, or there are none
 abbrev pub Begins : Result Members CompactErr → Option (List (List ℕ × JsonValue)) → Type 0
-Begins (Ok members) answer = (entries : List (List ℕ × JsonValue)) × (answer ≡ Some entries) × Hold members entries
+Begins (Ok members) answer =
+    (entries : List (List ℕ × JsonValue)) × (answer ≡ Some entries) × Hold members entries
 Begins (Err (e.Ld error)) answer = (answer ≡ None) × (error ≡ IriConfusedWithPrefix)
 Begins (Err e.Memory) answer = Unit {0}
 
 -- the entry of `@reverse`, where anything stands in it
 abbrev pub reverse_part : TermTable → List (List ℕ × JsonValue) → List (List ℕ × JsonValue)
 reverse_part table entries =
-    elim entries [ [] ↦ [] | first ∷ rest ↦ (short_keyword table at_reverse, object_of (first ∷ rest)) ∷ [] ]
+    elim entries
+    [ [] ↦ [] | first ∷ rest ↦ (short_keyword table at_reverse, object_of (first ∷ rest)) ∷ [] ]
 
 -- all entries of a node, after those of its id and types
-abbrev pub node_entries : TermTable → List (List ℕ × JsonValue) → List JsonValue → List (List ℕ × List Filed) → List (List ℕ × List Filed) → List (List ℕ × JsonValue)
+abbrev pub node_entries :
+    TermTable → List (List ℕ × JsonValue) → List JsonValue → List (List ℕ × List Filed) →
+    List (List ℕ × List Filed) → List (List ℕ × JsonValue)
 node_entries table entries graph properties reverses =
-    entries ++ graph_entry table graph ++ reverse_part table (entries_in_order (unturned_of reverses))
+    entries ++ graph_entry table graph
+    ++ reverse_part table (entries_in_order (unturned_of reverses))
     ++ entries_in_order properties ++ entries_in_order (turned_of reverses)
 
 -- the id of a node that has nothing but an id

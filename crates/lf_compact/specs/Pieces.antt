@@ -17,7 +17,8 @@ piece_data (p.InLanguage language scalar) = def.in_language language (json_data 
 piece_data p.Nothing = def.nothing
 
 abbrev pub filed_data : Filed → def.Filed
-filed_data filed = record { key = filed.key; term = option_copied filed.term; piece = piece_data filed.piece }
+filed_data filed =
+    record { key = filed.key; term = option_copied filed.term; piece = piece_data filed.piece }
 
 -- the language map that waits for its place, where it does, is this
 abbrev pub IsMap : JsonValue → Option Json → Type 0
@@ -39,7 +40,8 @@ abbrev pub keyed : List def.Filed → List (List ℕ × def.Filed)
 keyed values = map (λ value. (value.key, value)) values
 
 -- a piece that follows: the elements after it, and what they were to be before
-abbrev pub Follows : JsonValue → List Json → Option Json → List Json → Option Json → def.Piece → Type 0
+abbrev pub Follows :
+    JsonValue → List Json → Option Json → List Json → Option Json → def.Piece → Type 0
 Follows languages before waited after waits piece =
     (filed : def.Filed) (rest : List def.Filed) → filed.piece ≡ piece
     → map json_data after ++ def.group_elements languages (not (is_some waits)) rest

@@ -4,4 +4,5 @@ use Rattle.def_documents.specs.Picks as picks
 use Rattle.lf_compact.specs.declared.values.Plain.{Plain}
 
 abbrev pub plain_data : Plain → picks.Plain
-plain_data plain = record { scalar = json_data plain.scalar; datatype = plain.datatype; language = plain.language }
+plain_data plain =
+    record { scalar = json_data plain.scalar; datatype = plain.datatype; language = plain.language }

@@ -1,4 +1,5 @@
-//! The entry of a property under one key (JSON-LD 1.1 Processing Algorithms and API, section 5.1.2, from step 12.8 on).
+//! The entry of a property under one key (JSON-LD 1.1 Processing Algorithms and API, section 5.1.2,
+//! from step 12.8 on).
 ghost use Rattle.std.specs.Prelude.{◌≡◌, ◌∷◌, [], ℕ, List, IfOk, OnOk, map, not, is_some};
 ghost use Rattle.lf_model.specs.JsonBridge.{json_data};
 ghost use Rattle.lf_model.specs.JsonData.{JsonValue};
@@ -44,7 +45,8 @@ fn group_container(group: &[Filed<'_>]) -> Container
 
 // Puts the text or scalar of a language map under its language.
 fn put_language(alloc: Global, parts: &mut Groups<Json>, filed: &Filed<'_>) -> Result<(), Memory>
-    ensures { OnOk result (groups.PutsAll json_data parts.old parts.new (def.language_parts (filed_data filed.now ∷ []))) }
+    ensures { OnOk result (groups.PutsAll json_data parts.old parts.new
+        (def.language_parts (filed_data filed.now ∷ []))) }
 {
     match &filed.piece {
         Piece::InLanguage(language, scalar) => {
@@ -57,7 +59,8 @@ fn put_language(alloc: Global, parts: &mut Groups<Json>, filed: &Filed<'_>) -> R
 
 // The texts and scalars of a language map by their languages.
 fn languages_of(alloc: Global, group: &[Filed<'_>]) -> Result<Groups<Json>, Memory>
-    ensures { IfOk result (λ parts. groups.Hold json_data parts (def.language_parts (map filed_data group.now))) }
+    ensures { IfOk result
+        (λ parts. groups.Hold json_data parts (def.language_parts (map filed_data group.now))) }
 {
     let mut parts = BTreeMap::new(alloc);
     for filed in group {
@@ -95,7 +98,8 @@ fn language_map(alloc: Global, group: &[Filed<'_>]) -> Result<Json, Memory>
     object_of(alloc, members)
 }
 
-// Puts what a piece makes behind elements: the language map, where it still waits, at its first text.
+// Puts what a piece makes behind elements: the language map, where it still waits, at its first
+// text.
 fn push_piece(
     elements: &mut Vec<Json>,
     waiting: &mut Option<Json>,
@@ -120,7 +124,8 @@ fn push_piece(
     }
 }
 
-// The elements that the values make, in order; the language map stands at the place of its first text.
+// The elements that the values make, in order; the language map stands at the place of its first
+// text.
 fn group_elements(
     alloc: Global,
     languages: Option<Json>,

@@ -15,7 +15,8 @@ use thiserror::Error;
 /// Why a tree isn't compacted (JSON-LD 1.1 Processing Algorithms and API, section 5.1).
 #[derive(Clone, Copy, Debug, PartialEq, Eq, Error)]
 pub enum CompactErr {
-    /// An IRI would be read as a compact one: `IRI confused with prefix` is the only error of compaction.
+    /// An IRI would be read as a compact one: `IRI confused with prefix` is the only error of
+    /// compaction.
     #[error("{0}")]
     Ld(LdError),
     #[error("out of memory")]

@@ -1,4 +1,5 @@
-//! What comes under each key of a map, in order (JSON-LD 1.1 Processing Algorithms and API, section 5.1.2).
+//! What comes under each key of a map, in order (JSON-LD 1.1 Processing Algorithms and API, section
+//! 5.1.2).
 ghost use Rattle.std.specs.Prelude.{◌≡◌, [], ◌∷◌, ◌++◌, ℕ, List, OnOk, Some, if◌then◌else◌, unwrap_or};
 ghost use Rattle.lf_rdf.specs.Equality.{text_eq};
 ghost use Rattle.lf_compact.specs.Groups.{list_at};

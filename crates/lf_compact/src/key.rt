@@ -1,5 +1,5 @@
-//! The keys under which values stand, and the terms that are chosen for them (JSON-LD 1.1 Processing Algorithms and API,
-//! sections 6.2 and 6.3).
+//! The keys under which values stand, and the terms that are chosen for them (JSON-LD 1.1
+//! Processing Algorithms and API, sections 6.2 and 6.3).
 ghost use Rattle.lf_model.specs.TreeBridge.{entry_data, tree_data};
 ghost use Rattle.def_documents.specs.Picks.{pick_of, reverse_pick, tree_id};
 ghost use Rattle.lf_compact.specs.Answers.{Gives};
@@ -43,7 +43,8 @@ pub fn under_value<'a>(
     sole: bool,
     value: &TreeValue,
 ) -> Result<Under<'a>, CompactErr>
-    ensures { Gives under_data result (under_pick inverse.now iri.now (pick_of inverse.now sole (entry_data value.now))) }
+    ensures { Gives under_data result
+        (under_pick inverse.now iri.now (pick_of inverse.now sole (entry_data value.now))) }
 {
     let pick = pick_of(alloc, inverse, sole, value)?;
     under_pick(alloc, inverse, iri, &pick)
@@ -56,7 +57,8 @@ pub fn under_node<'a>(
     iri: &Text,
     node: &Tree,
 ) -> Result<Under<'a>, CompactErr>
-    ensures { Gives under_data result (under_pick inverse.now iri.now (reverse_pick inverse.now (tree_id (tree_data node.now)))) }
+    ensures { Gives under_data result (under_pick inverse.now iri.now
+        (reverse_pick inverse.now (tree_id (tree_data node.now)))) }
 {
     let pick = reverse_pick(alloc, inverse, &node.id)?;
     under_pick(alloc, inverse, iri, &pick)

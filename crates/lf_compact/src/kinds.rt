@@ -1,4 +1,5 @@
-//! Picks of lists, by what their items are (JSON-LD 1.1 Processing Algorithms and API, section 6.2.2).
+//! Picks of lists, by what their items are (JSON-LD 1.1 Processing Algorithms and API, section
+//! 6.2.2).
 ghost use Rattle.std.specs.Prelude.{◌≡◌, IfOk};
 ghost use Rattle.lf_model.specs.TreeBridge.{entry_data, entries_data};
 ghost use Rattle.def_documents.specs.Picks as def;
@@ -21,7 +22,9 @@ pub enum Kind<'a> {
 }
 
 fn literal_kind(literal: &Term) -> Kind<'_>
-    ensures { kind_data result ≡ def.plain_kind (def.literal_plain literal.now).datatype (def.literal_plain literal.now).language }
+    ensures { kind_data result
+        ≡ def.plain_kind (def.literal_plain literal.now).datatype
+        (def.literal_plain literal.now).language }
 {
     match literal {
         Term::Literal {
@@ -173,7 +176,8 @@ fn items_pick(alloc: Global, containers: ContainerList, items: &[TreeValue]) -> 
 }
 
 pub fn list_pick(alloc: Global, sole: bool, items: &TreeValueList) -> Result<Pick, Memory>
-    ensures { IfOk result (λ made. made ≡ def.list_pick (def.list_containers sole) (entries_data items.now)) }
+    ensures { IfOk result
+        (λ made. made ≡ def.list_pick (def.list_containers sole) (entries_data items.now)) }
 {
     items_pick(alloc, list_containers(alloc, sole)?, items.as_slice())
 }

@@ -1,4 +1,5 @@
-//! Compaction of framed trees: what each value asks of a term, how it is written, and the maps that nodes become.
+//! Compaction of framed trees: what each value asks of a term, how it is written, and the maps that
+//! nodes become.
 #![tactic(auto)]
 
 mod entry;

@@ -1,5 +1,5 @@
-//! The members of a map: what comes under one key stands alone, or its elements in one array (JSON-LD 1.1 Processing
-//! Algorithms and API, section 5.1.2: add value).
+//! The members of a map: what comes under one key stands alone, or its elements in one array
+//! (JSON-LD 1.1 Processing Algorithms and API, section 5.1.2: add value).
 ghost use Rattle.std.specs.Prelude.{◌≡◌, ◌++◌, ◌∷◌, [], ℕ, List, IfOk, OnOk, map};
 ghost use Rattle.lf_model.specs.JsonBridge.{json_data};
 ghost use Rattle.lf_model.specs.JsonData.{JsonValue};
@@ -61,7 +61,8 @@ pub fn array_of(values: Vec<Json>) -> Json
 
 // Puts the elements of an array, or any other value, behind values.
 fn push_elements(values: &mut Vec<Json>, value: Json) -> Result<(), Memory>
-    ensures { OnOk result (map json_data values.new.items ≡ map json_data values.old.items ++ elements_of (json_data value)) }
+    ensures { OnOk result (map json_data values.new.items
+        ≡ map json_data values.old.items ++ elements_of (json_data value)) }
 {
     match value {
         Json::List(items) => {
@@ -79,7 +80,8 @@ fn push_elements(values: &mut Vec<Json>, value: Json) -> Result<(), Memory>
 }
 
 fn push(values: &mut Vec<Json>, value: Json) -> Result<(), Memory>
-    ensures { OnOk result (map json_data values.new.items ≡ map json_data values.old.items ++ json_data value ∷ []) }
+    ensures { OnOk result (map json_data values.new.items
+        ≡ map json_data values.old.items ++ json_data value ∷ []) }
 {
     values.push(value)?;
     Ok(())
@@ -140,7 +142,9 @@ fn value_of(joined: Joined) -> Json
 
 /// The map of the members.
 pub fn object_of(alloc: Global, members: Members) -> Result<Json, Memory>
-    ensures { IfOk result (λ json. (entries : List (List ℕ × JsonValue)) → Hold members entries → json_data json ≡ object_of entries) }
+    ensures { IfOk result (λ json.
+        (entries : List (List ℕ × JsonValue)) → Hold members entries →
+        json_data json ≡ object_of entries) }
 {
     let mut members = members;
     let _ = members.len();

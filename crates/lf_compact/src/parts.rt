@@ -46,7 +46,8 @@ fn add_where(
     value: Json,
     some: bool,
 ) -> Result<(), Memory>
-    ensures { OnOk result (AddsEntries members.old members.new (if some then (key, json_data value) ∷ [] else [])) }
+    ensures { OnOk result
+        (AddsEntries members.old members.new (if some then (key, json_data value) ∷ [] else [])) }
 {
     if some {
         add(alloc, members, key, value)
@@ -98,7 +99,8 @@ fn short_types(alloc: Global, inverse: &Inverse, types: &[Term]) -> Result<Vec<J
     Ok(made)
 }
 
-// Whether one type is an array too: the key is `@type` and the context says so, or a term with `@set`.
+// Whether one type is an array too: the key is `@type` and the context says so, or a term with
+// `@set`.
 #[tactic(auto, unfolding(def_selection::specs::Keywords::at_type))]
 fn types_in_array(inverse: &Inverse, key: &Text) -> bool
     ensures { result ≡ def.types_in_array inverse.now key.now }
@@ -117,7 +119,8 @@ fn add_type_names(
     members: &mut Members,
     types: Vec<Json>,
 ) -> Result<(), Memory>
-    ensures { OnOk result (AddsEntries members.old members.new (names_entry inverse.now (map json_data types.items))) }
+    ensures { OnOk result (AddsEntries members.old members.new
+        (names_entry inverse.now (map json_data types.items))) }
 {
     let key = inverse.compact_keyword(alloc, "@type")?;
     let in_array = types_in_array(inverse, &key);
@@ -171,7 +174,8 @@ fn add_graph(
     members: &mut Members,
     graph: Vec<Json>,
 ) -> Result<(), Memory>
-    ensures { OnOk result (AddsEntries members.old members.new (def.graph_entry inverse.now (map json_data graph.items))) }
+    ensures { OnOk result (AddsEntries members.old members.new
+        (def.graph_entry inverse.now (map json_data graph.items))) }
 {
     let key = inverse.compact_keyword(alloc, "@graph")?;
     let some = has_any(graph.as_slice());
@@ -197,7 +201,8 @@ fn add_reverse(
     add_where(alloc, members, key, object, some)
 }
 
-/// A node's map: after its id and types its graph, its reverse properties, its properties and those under reverse terms.
+/// A node's map: after its id and types its graph, its reverse properties, its properties and those
+/// under reverse terms.
 pub fn write_node(
     alloc: Global,
     inverse: &Inverse,

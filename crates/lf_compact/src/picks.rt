@@ -1,4 +1,5 @@
-//! Picks of texts and scalars, and what all picks are made of (JSON-LD 1.1 Processing Algorithms and API, section 6.2.2).
+//! Picks of texts and scalars, and what all picks are made of (JSON-LD 1.1 Processing Algorithms
+//! and API, section 6.2.2).
 ghost use Rattle.std.specs.Prelude.{◌≡◌, ◌∷◌, [], IfOk};
 ghost use Rattle.def_documents.specs.Picks as def;
 

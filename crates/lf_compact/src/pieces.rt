@@ -1,5 +1,5 @@
-//! What a compacted value gives to the entry of its property (JSON-LD 1.1 Processing Algorithms and API, section 5.1.2, from
-//! step 12.8 on).
+//! What a compacted value gives to the entry of its property (JSON-LD 1.1 Processing Algorithms and
+//! API, section 5.1.2, from step 12.8 on).
 ghost use Rattle.std.specs.Prelude.{◌≡◌, IfOk};
 ghost use Rattle.std.specs.Option.{option_copied};
 ghost use Rattle.lf_model.specs.JsonBridge.{json_data};
@@ -15,7 +15,8 @@ use lf_model::{Container, DefaultValue, Json, TermDef, TreeValue};
 use lf_select::Inverse;
 use std::alloc::Global;
 
-/// What a value gives to the entry of its property: a value, a text or scalar of a language map, or nothing.
+/// What a value gives to the entry of its property: a value, a text or scalar of a language map, or
+/// nothing.
 #[derive(Drop)]
 pub enum Piece {
     Whole(Json),
@@ -83,7 +84,8 @@ pub fn is_set(container: Container) -> bool
 // A text or scalar under its language, or under the alias of `@none` where it has none.
 #[tactic(auto, unfolding(def_selection::specs::Keywords::at_none))]
 fn piece_in_language(alloc: Global, inverse: &Inverse, plain: Plain) -> Result<Piece, Memory>
-    ensures { IfOk result (λ piece. piece_data piece ≡ def.piece_in_language inverse.now (plain_data plain)) }
+    ensures { IfOk result
+        (λ piece. piece_data piece ≡ def.piece_in_language inverse.now (plain_data plain)) }
 {
     let Plain {
         scalar,
@@ -106,7 +108,8 @@ fn default_piece(
     value: &DefaultValue,
     json: Json,
 ) -> Result<Piece, Memory>
-    ensures { IfOk result (λ piece. piece_data piece ≡ def.default_piece inverse.now value.now (json_data json)) }
+    ensures { IfOk result
+        (λ piece. piece_data piece ≡ def.default_piece inverse.now value.now (json_data json)) }
 {
     match value {
         DefaultValue::Null => Ok(Piece::Whole(json)),
@@ -130,7 +133,9 @@ fn mapped_piece(
     value: &TreeValue,
     json: Json,
 ) -> Result<Piece, Memory>
-    ensures { IfOk result (λ piece. piece_data piece ≡ def.mapped_piece inverse.now (entry_data value.now) (json_data json)) }
+    ensures { IfOk result (λ piece.
+        piece_data piece
+        ≡ def.mapped_piece inverse.now (entry_data value.now) (json_data json)) }
 {
     match value {
         TreeValue::Literal(literal) => {

@@ -1,5 +1,5 @@
-//! The entries of properties, one under each key that their values have (JSON-LD 1.1 Processing Algorithms and API, section
-//! 5.1.2).
+//! The entries of properties, one under each key that their values have (JSON-LD 1.1 Processing
+//! Algorithms and API, section 5.1.2).
 ghost use Rattle.std.specs.Prelude.{◌≡◌, ℕ, List, IfOk, OnOk, map};
 ghost use Rattle.std.specs.List.{flat_map};
 ghost use Rattle.def_documents.specs.Entries as def;
@@ -51,7 +51,8 @@ fn add_groups(alloc: Global, members: &mut Members, groups: Groups<Filed<'_>>) -
 
 // Puts the entries of a property into a map.
 fn add_property(alloc: Global, members: &mut Members, values: Vec<Filed<'_>>) -> Result<(), Memory>
-    ensures { OnOk result (AddsEntries members.old members.new (def.property_entries (filed_list values.entry))) }
+    ensures { OnOk result
+        (AddsEntries members.old members.new (def.property_entries (filed_list values.entry))) }
 {
     let groups = by_key(alloc, values)?;
     add_groups(alloc, members, groups)
@@ -59,7 +60,8 @@ fn add_property(alloc: Global, members: &mut Members, values: Vec<Filed<'_>>) ->
 
 // Puts the entries of several lists of values of one property into a map.
 fn add_lists(alloc: Global, members: &mut Members, lists: Vec<Vec<Filed<'_>>>) -> Result<(), Memory>
-    ensures { OnOk result (AddsEntries members.old members.new (flat_map def.property_entries (map filed_list lists.entry.items))) }
+    ensures { OnOk result (AddsEntries members.old members.new
+        (flat_map def.property_entries (map filed_list lists.entry.items))) }
 {
     for values in lists {
         add_property(alloc, members, values)?;
@@ -99,13 +101,15 @@ fn add_properties(
     Ok(())
 }
 
-/// Puts the entries of properties into a map, in byte order of the properties' IRIs. Its time grows as n log n in the values.
+/// Puts the entries of properties into a map, in byte order of the properties' IRIs. Its time grows
+/// as n log n in the values.
 pub fn add_in_order(
     alloc: Global,
     members: &mut Members,
     properties: Vec<FiledProperty<'_>>,
 ) -> Result<(), Memory>
-    ensures { OnOk result (AddsEntries members.old members.new (def.entries_in_order (properties_data properties.entry))) }
+    ensures { OnOk result (AddsEntries members.old members.new
+        (def.entries_in_order (properties_data properties.entry))) }
 {
     let groups = by_iri(alloc, properties)?;
     add_properties(alloc, members, groups)

@@ -1,4 +1,5 @@
-//! Compaction of nodes, their values and lists (JSON-LD 1.1 Processing Algorithms and API, section 5.1.2).
+//! Compaction of nodes, their values and lists (JSON-LD 1.1 Processing Algorithms and API, section
+//! 5.1.2).
 ghost use Rattle.std.specs.Prelude.{◌≡◌, ◌&&◌};
 ghost use Rattle.std.specs.Option.{option_copied};
 ghost use Rattle.lf_model.specs.TreeBridge.{entries_data, entry_data, nodes_data, properties_data, property_data, reverse_data, reverses_data, tree_data};
@@ -120,7 +121,8 @@ fn properties_filed<'a>(
     inverse: &'a Inverse,
     properties: &TreePropList,
 ) -> Result<Vec<FiledProperty<'a>>, CompactErr>
-    ensures { Gives pieces.properties_data result (def.properties_filed inverse.now (properties_data properties.now)) }
+    ensures { Gives pieces.properties_data result
+        (def.properties_filed inverse.now (properties_data properties.now)) }
 {
     let mut made = Vec::new(alloc);
     for property in properties.as_slice() {
@@ -156,7 +158,8 @@ fn values_filed<'a>(
     sole: bool,
     values: &TreeValueList,
 ) -> Result<Vec<Filed<'a>>, CompactErr>
-    ensures { Gives pieces.filed_list result (def.values_filed inverse.now iri.now sole (entries_data values.now)) }
+    ensures { Gives pieces.filed_list result
+        (def.values_filed inverse.now iri.now sole (entries_data values.now)) }
 {
     let mut made = Vec::new(alloc);
     for value in values.as_slice() {
@@ -200,7 +203,8 @@ fn value_json(
     term: Option<&TermDef>,
     value: &TreeValue,
 ) -> Result<Json, CompactErr>
-    ensures { Compacted result (def.value_json inverse.now (option_copied term.entry) (entry_data value.now)) }
+    ensures { Compacted result
+        (def.value_json inverse.now (option_copied term.entry) (entry_data value.now)) }
 {
     match value {
         TreeValue::Node(tree) => node_json(alloc, inverse, term, tree),
@@ -221,7 +225,8 @@ fn items_json(
     term: Option<&TermDef>,
     items: &TreeValueList,
 ) -> Result<Vec<Json>, CompactErr>
-    ensures { Gives json_list result (def.items_json inverse.now (option_copied term.entry) (entries_data items.now)) }
+    ensures { Gives json_list result
+        (def.items_json inverse.now (option_copied term.entry) (entries_data items.now)) }
 {
     let mut made = Vec::new(alloc);
     for item in items.as_slice() {
@@ -239,7 +244,8 @@ fn reverses_filed<'a>(
     inverse: &'a Inverse,
     reverses: &TreeReverseList,
 ) -> Result<Vec<FiledProperty<'a>>, CompactErr>
-    ensures { Gives pieces.properties_data result (def.reverses_filed inverse.now (reverses_data reverses.now)) }
+    ensures { Gives pieces.properties_data result
+        (def.reverses_filed inverse.now (reverses_data reverses.now)) }
 {
     let mut made = Vec::new(alloc);
     for reverse in reverses.as_slice() {
@@ -273,7 +279,8 @@ fn pointing_filed<'a>(
     iri: &Text,
     nodes: &TreeList,
 ) -> Result<Vec<Filed<'a>>, CompactErr>
-    ensures { Gives pieces.filed_list result (def.pointing_filed inverse.now iri.now (nodes_data nodes.now)) }
+    ensures { Gives pieces.filed_list result
+        (def.pointing_filed inverse.now iri.now (nodes_data nodes.now)) }
 {
     let mut made = Vec::new(alloc);
     for node in nodes.as_slice() {
@@ -308,16 +315,17 @@ fn one_pointing<'a>(
     }
 }
 
-/// The compacted tree, by the inverse of its context that is made once for all trees of a document (JSON-LD 1.1 Processing
-/// Algorithms and API, section 5.1). `Ld` is `IRI confused with prefix`. Its time grows with the tree's items and the
-/// logarithm of the members of a map.
+/// The compacted tree, by the inverse of its context that is made once for all trees of a document
+/// (JSON-LD 1.1 Processing Algorithms and API, section 5.1). `Ld` is `IRI confused with prefix`.
+/// Its time grows with the tree's items and the logarithm of the members of a map.
 pub fn compact_with(alloc: Global, inverse: &Inverse, tree: &Tree) -> Result<Json, CompactErr>
     ensures { Compacted result (def.compact inverse.now (tree_data tree.now)) }
 {
     node_json(alloc, inverse, None, tree)
 }
 
-/// The compacted tree by a context, which is turned round for this call: `compact_with` shares that between trees.
+/// The compacted tree by a context, which is turned round for this call: `compact_with` shares that
+/// between trees.
 pub fn compact(alloc: Global, table: &TermTable, tree: &Tree) -> Result<Json, CompactErr>
     ensures { Compacted result (def.compact table.now (tree_data tree.now)) }
 {

@@ -1,5 +1,5 @@
-//! Values of reverse properties, by whether they were filed under reverse terms (JSON-LD 1.1 Processing Algorithms and API,
-//! section 5.1.2, step 12.4).
+//! Values of reverse properties, by whether they were filed under reverse terms (JSON-LD 1.1
+//! Processing Algorithms and API, section 5.1.2, step 12.4).
 ghost use Rattle.std.specs.Prelude.{◌≡◌, IfOk, map};
 ghost use Rattle.def_documents.specs.Nodes.{is_turned};
 ghost use Rattle.lf_compact.specs.Pieces.{filed_data, filed_list, properties_data};
@@ -55,8 +55,10 @@ pub fn split_reverses<'a>(
     alloc: Global,
     reverses: Vec<FiledProperty<'a>>,
 ) -> Result<Split<'a>, Memory>
-    ensures turned { IfOk result (λ split. properties_data split.turned ≡ turned_of (properties_data reverses.entry)) }
-    ensures unturned { IfOk result (λ split. properties_data split.unturned ≡ unturned_of (properties_data reverses.entry)) }
+    ensures turned { IfOk result
+        (λ split. properties_data split.turned ≡ turned_of (properties_data reverses.entry)) }
+    ensures unturned { IfOk result
+        (λ split. properties_data split.unturned ≡ unturned_of (properties_data reverses.entry)) }
 {
     let mut turned = Vec::new(alloc);
     let mut unturned = Vec::new(alloc);

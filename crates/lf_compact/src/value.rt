@@ -12,7 +12,8 @@ use lf_model::TreeValue;
 use lf_select::Inverse;
 use std::alloc::Global;
 
-/// What a property's value asks of a term; `sole` is whether the property has no other value in this node.
+/// What a property's value asks of a term; `sole` is whether the property has no other value in
+/// this node.
 pub fn pick_of(
     alloc: Global,
     inverse: &Inverse,

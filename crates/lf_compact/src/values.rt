@@ -102,7 +102,8 @@ pub fn scalar_plain(
     datatype: &Option<Text>,
     language: &Option<Text>,
 ) -> Result<Plain, Memory>
-    ensures { IfOk result (λ plain. plain_data plain ≡ picks.scalar_plain scalar.now datatype.now language.now) }
+    ensures { IfOk result
+        (λ plain. plain_data plain ≡ picks.scalar_plain scalar.now datatype.now language.now) }
 {
     Ok(Plain {
         scalar: scalar_json(alloc, scalar)?,
@@ -150,7 +151,9 @@ fn is_same(one: &Option<Text>, two: &Option<Text>) -> bool
 
 // Whether a text's language is the one that it has without saying so: the term's, else the table's.
 fn has_language_under(table: &TermTable, term: Option<&TermDef>, language: &Option<Text>) -> bool
-    ensures { result ≡ option_eq text_eq language.now (def.language_under table.now (option_copied term.entry)) }
+    ensures { result
+        ≡ option_eq text_eq language.now
+        (def.language_under table.now (option_copied term.entry)) }
 {
     match term {
         Some(term) => match &term.language {

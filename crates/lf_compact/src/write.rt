@@ -1,4 +1,5 @@
-//! How values and references are written under a chosen term (JSON-LD 1.1 Processing Algorithms and API, section 6.1.2).
+//! How values and references are written under a chosen term (JSON-LD 1.1 Processing Algorithms and
+//! API, section 6.1.2).
 ghost use Rattle.std.specs.Prelude.{◌≡◌, ◌∷◌, [], IfOk, OnOk, map};
 ghost use Rattle.std.specs.Option.{option_copied};
 ghost use Rattle.lf_model.specs.JsonBridge.{json_data};
@@ -29,7 +30,8 @@ pub fn add_under(
     keyword: &str,
     value: Json,
 ) -> Result<(), Memory>
-    ensures { OnOk result (AddsEntries members.old members.new ((short_keyword inverse.now keyword.now, json_data value) ∷ [])) }
+    ensures { OnOk result (AddsEntries members.old members.new
+        ((short_keyword inverse.now keyword.now, json_data value) ∷ [])) }
 {
     let key = inverse.compact_keyword(alloc, keyword)?;
     add(alloc, members, key, value)
@@ -42,7 +44,9 @@ pub fn only_under(
     keyword: &str,
     value: Json,
 ) -> Result<Json, Memory>
-    ensures { IfOk result (λ json. json_data json ≡ object_of ((short_keyword inverse.now keyword.now, json_data value) ∷ [])) }
+    ensures { IfOk result (λ json.
+        json_data json
+        ≡ object_of ((short_keyword inverse.now keyword.now, json_data value) ∷ [])) }
 {
     let mut members = BTreeMap::new(alloc);
     add_under(alloc, inverse, &mut members, keyword, value)?;
@@ -120,13 +124,15 @@ pub fn literal_json(
     term: Option<&TermDef>,
     literal: &Term,
 ) -> Result<Json, CompactErr>
-    ensures { Compacted result (def.plain_json inverse.now (option_copied term.entry) (picks.literal_plain literal.now)) }
+    ensures { Compacted result (def.plain_json inverse.now (option_copied term.entry)
+        (picks.literal_plain literal.now)) }
 {
     let plain = literal_plain(alloc, literal)?;
     plain_json(alloc, inverse, term, plain)
 }
 
-// A compacted id: the id alone where the term's coercion says that it is one, otherwise a map of it.
+// A compacted id: the id alone where the term's coercion says that it is one, otherwise a map of
+// it.
 #[tactic(auto, unfolding(def_selection::specs::Keywords::at_id, def_selection::specs::Keywords::at_vocab), using(lf_model::proofs::JsonLemmas::json_cases))]
 fn reference_value(
     alloc: Global,
@@ -134,7 +140,8 @@ fn reference_value(
     term: Option<&TermDef>,
     compacted: Text,
 ) -> Result<Json, Memory>
-    ensures { IfOk result (λ json. json_data json ≡ def.reference_value inverse.now (option_copied term.entry) compacted) }
+    ensures { IfOk result (λ json.
+        json_data json ≡ def.reference_value inverse.now (option_copied term.entry) compacted) }
 {
     if coerces_to(term, "@id") || coerces_to(term, "@vocab") {
         Ok(Json::Text(compacted))
@@ -206,7 +213,9 @@ pub fn list_json(
     term: Option<&TermDef>,
     items: Vec<Json>,
 ) -> Result<Json, Memory>
-    ensures { IfOk result (λ json. json_data json ≡ nodes.list_json inverse.now (option_copied term.entry) (map json_data items.items)) }
+    ensures { IfOk result (λ json.
+        json_data json
+        ≡ nodes.list_json inverse.now (option_copied term.entry) (map json_data items.items)) }
 {
     let items = Json::List(ListOf::from_vec(items));
     if is_list(term) {

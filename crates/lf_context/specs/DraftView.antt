@@ -5,4 +5,9 @@ use Rattle.lf_context.specs.declared.draft.Drafted.{Drafted}
 
 abbrev pub table_in : Drafted → TermTable
 table_in draft =
-    record { vocab = draft.vocab; language = draft.language; terms = values_of draft.terms.entries; type_set = draft.type_set }
+    record {
+      vocab = draft.vocab;
+      language = draft.language;
+      terms = values_of draft.terms.entries;
+      type_set = draft.type_set;
+    }

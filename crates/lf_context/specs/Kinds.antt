@@ -20,14 +20,19 @@ IsKind name told.Ignored = name_kind name ≡ ignored_name
 IsKind name told.Ordinary = name_kind name ≡ ordinary_name
 
 -- a turn that is made of one table and leaves another one, or the step's error
-abbrev pub Comes : Step → List ℕ → JsonValue → TermTable → TermTable → Result Turn ContextErr → Type 0
+abbrev pub Comes :
+    Step → List ℕ → JsonValue → TermTable → TermTable → Result Turn ContextErr → Type 0
 Comes step name value old new (Ok turn) =
-    (need : Need) (done : List (List ℕ)) → step need (drafted old done) ≡ turned turn need name value (drafted new done)
-Comes step name value old new (Err (Ld e)) = (need : Need) (done : List (List ℕ)) → step need (drafted old done) ≡ Err e
+    (need : Need) (done : List (List ℕ)) →
+    step need (drafted old done) ≡ turned turn need name value (drafted new done)
+Comes step name value old new (Err (Ld e)) =
+    (need : Need) (done : List (List ℕ)) → step need (drafted old done) ≡ Err e
 Comes step name value old new (Err Memory) = ⊤
 
 abbrev pub Starts : List ℕ → JsonValue → TermTable → TermTable → Result Turn ContextErr → Type 0
-Starts name value old new result = Comes (λ need draft. term_defined (name_kind name) need name value draft) name value old new result
+Starts name value old new result = Comes
+    (λ need draft. term_defined (name_kind name) need name value draft) name value old new result
 
 abbrev pub StartsType : JsonValue → TermTable → TermTable → Result Turn ContextErr → Type 0
-StartsType value old new result = Comes (λ need draft. type_term value draft) (codes "@type") value old new result
+StartsType value old new result =
+    Comes (λ need draft. type_term value draft) (codes "@type") value old new result

@@ -16,12 +16,16 @@ checked given = do
   refuse (has_refused_key given) InvalidLocalContext
 
 -- the terms, over the table with this vocabulary mapping and this default language
-abbrev pub terms_step : JsonMembers → TermTable → Option (List ℕ) → Option (List ℕ) → Result TermTable LdError
-terms_step given table vocab language = defined_table given (record table { vocab = vocab; language = language })
+abbrev pub terms_step :
+    JsonMembers → TermTable → Option (List ℕ) → Option (List ℕ) → Result TermTable LdError
+terms_step given table vocab language =
+    defined_table given (record table { vocab = vocab; language = language })
 
 abbrev pub language_step : JsonMembers → TermTable → Option (List ℕ) → Result TermTable LdError
 language_step given table vocab =
-    default_language_of table (value_of (codes "@language") given) >>= λ language. terms_step given table vocab language
+    default_language_of table (value_of (codes "@language") given) >>= λ language.
+    terms_step given table vocab language
 
 abbrev pub vocab_step : JsonMembers → TermTable → Result TermTable LdError
-vocab_step given table = vocab_of table (value_of (codes "@vocab") given) >>= λ vocab. language_step given table vocab
+vocab_step given table =
+    vocab_of table (value_of (codes "@vocab") given) >>= λ vocab. language_step given table vocab

@@ -28,11 +28,13 @@ mark_of false false = None
 
 -- the marks say which terms are done and which are being defined
 abbrev pub AreMarked : List (List ℕ × Bool) → List (List ℕ) → List (List ℕ) → Type 0
-AreMarked marks done beings = (x : List ℕ) → mark_at x marks ≡ mark_of (one_of done x) (one_of beings x)
+AreMarked marks done beings =
+    (x : List ℕ) → mark_at x marks ≡ mark_of (one_of done x) (one_of beings x)
 
 -- the name has this mark then, and every other its own
 abbrev pub Puts : List ℕ → Bool → List (List ℕ × Bool) → List (List ℕ × Bool) → Type 0
-Puts name b marks after = (x : List ℕ) → mark_at x after ≡ (if is_eq (name_cmp name x) then Some b else mark_at x marks)
+Puts name b marks after =
+    (x : List ℕ) → mark_at x after ≡ (if is_eq (name_cmp name x) then Some b else mark_at x marks)
 
 -- how a term stands by its mark and its value
 abbrev pub standing_by : Option Bool → Option JsonValue → Standing
@@ -53,7 +55,8 @@ IsStanding s (told.Waiting value) = s ≡ waiting (json_data value.now)
 -- how many terms aren't among these
 abbrev pub unmarked : List (List ℕ) → List Entry → ℕ
 unmarked marked [] = 0
-unmarked marked (e ∷ rest) = if one_of marked e.name then unmarked marked rest else suc (unmarked marked rest)
+unmarked marked (e ∷ rest) =
+    if one_of marked e.name then unmarked marked rest else suc (unmarked marked rest)
 
 -- how many terms have no mark
 abbrev pub left : List (List ℕ × Bool) → JsonMembers → ℕ

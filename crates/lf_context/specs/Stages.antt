@@ -49,28 +49,34 @@ after_iri (Reverse coercion) need name value e = do
 after_iri (Id coercion) need name value e = do
   iri ← named_iri e.iri
   after ← confirmed (must_expand name) need name iri e.draft
-  mapped_term name (members_in value) coercion (mapped after iri (is_prefix_by_form name iri (is_simple value)))
+  mapped_term name (members_in value) coercion
+      (mapped after iri (is_prefix_by_form name iri (is_simple value)))
 
 -- what is done with the type mapping that was expanded
 abbrev pub after_type : Need → List ℕ → JsonValue → Expanded → Result Draft LdError
 after_type need name value e =
-    type_expanded e e.iri >>= typed_term (part (codes "@reverse") value) need name (members_in value) (is_simple value)
+    type_expanded e e.iri >>= typed_term (part (codes "@reverse") value) need name
+    (members_in value) (is_simple value)
 
 -- the definition of a term from a stage on
 abbrev pub resumed : Stage → Need → List ℕ → JsonValue → Draft → Result Draft LdError
 resumed (TypePrefix words) need name value draft = do
   both ← need_prefix need words draft
   after_type need name value (expanded_by words both)
-resumed (TypeExpanding words) need name value draft = after_type need name value (expanded_by words draft)
+resumed (TypeExpanding words) need name value draft =
+    after_type need name value (expanded_by words draft)
 resumed (IriPrefix words wanted) need name value draft = do
   both ← need_prefix need words draft
   after_iri wanted need name value (expanded_by words both)
-resumed (IriExpanding words wanted) need name value draft = after_iri wanted need name value (expanded_by words draft)
+resumed (IriExpanding words wanted) need name value draft =
+    after_iri wanted need name value (expanded_by words draft)
 resumed (Confirming coercion iri) need name value draft = do
   _ ← refuse (not (option_eq text_eq (expanded_by name draft).iri (Some iri))) InvalidIriMapping
-  mapped_term name (members_in value) coercion (mapped draft iri (is_prefix_by_form name iri (is_simple value)))
+  mapped_term name (members_in value) coercion
+      (mapped draft iri (is_prefix_by_form name iri (is_simple value)))
 resumed (ByName coercion) need name value draft = do
-  m ← absolute_or_refused draft (Some (iri_by_prefix name (find_term (before_colon name) draft.table.terms)))
+  m ← absolute_or_refused draft
+      (Some (iri_by_prefix name (find_term (before_colon name) draft.table.terms)))
   mapped_term name (members_in value) coercion m
 
 -- what a turn comes to

@@ -15,7 +15,8 @@ are_named entries = list_all is_named entries
 
 -- the parts of a table by which texts are expanded
 abbrev pub expanding_table : Option (List ℕ) → List TermDef → TermTable
-expanding_table mapping terms = record { vocab = mapping; language = None; terms = terms; type_set = false }
+expanding_table mapping terms =
+    record { vocab = mapping; language = None; terms = terms; type_set = false }
 
 -- the table without a term
 abbrev pub table_without : List ℕ → TermTable → TermTable

@@ -19,9 +19,10 @@ use lf_base::{Memory, Text, TryCopy};
 use lf_model::{Json, JsonList, JsonMap, LdError, TermTable};
 use std::alloc::Global;
 
-/// The term table of a context, its terms in byte order of their names; or the first error that is met, by its name in
-/// the standards. Each term is defined once, with those that it needs first, on a stack of its own: the cost grows as
-/// n log n with the terms, however they need each other. Calls nest as deep as arrays do in the context.
+/// The term table of a context, its terms in byte order of their names; or the first error that is
+/// met, by its name in the standards. Each term is defined once, with those that it needs first, on
+/// a stack of its own: the cost grows as n log n with the terms, however they need each other.
+/// Calls nest as deep as arrays do in the context.
 pub fn process(alloc: Global, context: &Json) -> Result<TermTable, ContextErr>
     ensures table { IsPart (table_of (json_data context.now)) result }
     ensures order { IfOk result (λ table. IsTrue (ascends table.terms)) }
@@ -33,10 +34,12 @@ pub fn process(alloc: Global, context: &Json) -> Result<TermTable, ContextErr>
     }
 }
 
-// A context over the table before it: null empties the table, and an array is read element by element.
+// A context over the table before it: null empties the table, and an array is read element by
+// element.
 #[cycle(reading)]
 fn read_context(alloc: Global, draft: &mut Drafted, context: &Json) -> Result<(), ContextErr>
-    ensures { IsTable (table_after (json_data context.now) (table_in draft.old)) (table_in draft.new) result }
+    ensures { IsTable (table_after (json_data context.now) (table_in draft.old)) (table_in draft.new)
+        result }
 {
     match context {
         Json::Null => {
@@ -54,7 +57,8 @@ fn read_context(alloc: Global, draft: &mut Drafted, context: &Json) -> Result<()
 
 #[cycle(reading)]
 fn read_contexts(alloc: Global, draft: &mut Drafted, items: &JsonList) -> Result<(), ContextErr>
-    ensures { IsTable (items_after (items_data items.now) (table_in draft.old)) (table_in draft.new) result }
+    ensures { IsTable (items_after (items_data items.now) (table_in draft.old)) (table_in draft.new)
+        result }
 {
     for item in items.as_slice() {
         match read_context(alloc, draft, item) {
@@ -67,7 +71,8 @@ fn read_contexts(alloc: Global, draft: &mut Drafted, items: &JsonList) -> Result
 
 // The map of a context: its own keys first, and then its terms.
 fn read_map(alloc: Global, draft: &mut Drafted, members: &JsonMap) -> Result<(), ContextErr>
-    ensures { IsTable (map_table (members_data members.now) (table_in draft.old)) (table_in draft.new) result }
+    ensures { IsTable (map_table (members_data members.now) (table_in draft.old)) (table_in draft.new)
+        result }
 {
     match check_keys(members) {
         Ok(()) => read_vocab(alloc, draft, members),
@@ -76,7 +81,8 @@ fn read_map(alloc: Global, draft: &mut Drafted, members: &JsonMap) -> Result<(),
 }
 
 fn read_vocab(alloc: Global, draft: &mut Drafted, members: &JsonMap) -> Result<(), ContextErr>
-    ensures { IsTable (vocab_step (members_data members.now) (table_in draft.old)) (table_in draft.new) result }
+    ensures { IsTable (vocab_step (members_data members.now) (table_in draft.old)) (table_in draft.new)
+        result }
 {
     match vocab_of(alloc, draft, member(members, "@vocab")) {
         Ok(vocab) => read_language(alloc, draft, members, vocab),
@@ -90,7 +96,8 @@ fn read_language(
     members: &JsonMap,
     vocab: Option<Text>,
 ) -> Result<(), ContextErr>
-    ensures { IsTable (language_step (members_data members.now) (table_in draft.old) vocab) (table_in draft.new) result }
+    ensures { IsTable (language_step (members_data members.now) (table_in draft.old) vocab)
+        (table_in draft.new) result }
 {
     match default_language_of(alloc, draft, member(members, "@language")) {
         Ok(language) => {

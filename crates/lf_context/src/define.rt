@@ -1,5 +1,6 @@
-//! The terms of a context's map, each defined with those that it needs. The terms that are being defined stand on a
-//! stack of the walk's own, so that a chain of terms, however long, makes no deep calls.
+//! The terms of a context's map, each defined with those that it needs. The terms that are being
+//! defined stand on a stack of the walk's own, so that a chain of terms, however long, makes no
+//! deep calls.
 ghost use Rattle.std.specs.Prelude.{◌≡◌, ◌<◌, [], IfOk, Some, None, length};
 ghost use Rattle.std.specs.Bool.{MatchBool};
 ghost use Rattle.lf_model.specs.JsonBridge.{json_data, members_data};
@@ -28,7 +29,8 @@ use std::collections::BTreeMap;
 
 /// The terms of a map are defined in order, each with those that it needs first.
 pub fn define_terms(alloc: Global, draft: &mut Drafted, members: &JsonMap) -> Result<(), ContextErr>
-    ensures { IsTable (defined_table (members_data members.now) (table_in draft.old)) (table_in draft.new) result }
+    ensures { IsTable (defined_table (members_data members.now) (table_in draft.old)) (table_in draft.new)
+        result }
 {
     let mut marks = BTreeMap::new(alloc);
     for member in members.as_slice() {
@@ -48,7 +50,8 @@ fn define_member(
     marks: &mut Marks,
     key: &Text,
 ) -> Result<(), ContextErr>
-    ensures { Furthers (members_data members.now) (table_in draft.old) marks.old.entries key.now (table_in draft.new) marks.new.entries result }
+    ensures { Furthers (members_data members.now) (table_in draft.old) marks.old.entries key.now
+        (table_in draft.new) marks.new.entries result }
 {
     if is_context_key(key.as_str()) {
         return Ok(());
@@ -64,7 +67,8 @@ fn make_ready(
     marks: &mut Marks,
     name: &Text,
 ) -> Result<(), ContextErr>
-    ensures { MakesReady (members_data members.now) (table_in draft.old) marks.old.entries name.now (table_in draft.new) marks.new.entries result }
+    ensures { MakesReady (members_data members.now) (table_in draft.old) marks.old.entries name.now
+        (table_in draft.new) marks.new.entries result }
 {
     let mut stack = Vec::new(alloc);
     let first = name.copy(alloc)?;
@@ -80,7 +84,8 @@ fn make_ready(
 
 // Whether there is something to go on with.
 fn is_under_way(asked: &Option<Text>, stack: &Vec<Begun>) -> bool
-    ensures { MatchBool result (IsUnderWay asked.now stack.now.items) ((asked.now ≡ None) × (stack.now.items ≡ [])) }
+    ensures { MatchBool result (IsUnderWay asked.now stack.now.items)
+        ((asked.now ≡ None) × (stack.now.items ≡ [])) }
 {
     match asked {
         Some(_) => true,

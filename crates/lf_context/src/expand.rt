@@ -13,9 +13,10 @@ use lf_base::{Memory, Text, TryCopy};
 use lf_model::{TermDef, TermTable};
 use std::alloc::Global;
 
-/// What a text expands to by a table, with or without the vocabulary mapping; none where it is no IRI.
-/// A keyword expands to itself, and a text that nothing decides stays as it is. The table's terms are
-/// in byte order, as those of a processed context are; a look-up takes their number's logarithm.
+/// What a text expands to by a table, with or without the vocabulary mapping; none where it is no
+/// IRI. A keyword expands to itself, and a text that nothing decides stays as it is. The table's
+/// terms are in byte order, as those of a processed context are; a look-up takes their number's
+/// logarithm.
 pub fn expand_iri(
     alloc: Global,
     table: &TermTable,
@@ -53,7 +54,10 @@ pub fn expand_by<T: Terms>(
     vocab: bool,
 ) -> Result<Option<Text>, Memory>
     requires { T.is_ready terms.now }
-    ensures { IfOk result (λ iri. iri ≡ expand (expanding_table (option_copied mapping.entry) (T.terms terms.now)) text.now vocab) }
+    ensures { IfOk result (λ iri.
+        iri
+        ≡ expand (expanding_table (option_copied mapping.entry) (T.terms terms.now)) text.now
+        vocab) }
 {
     if is_keyword(text.as_str()) {
         return Ok(Some(text.copy(alloc)?));
@@ -85,7 +89,9 @@ fn maps_to_keyword(term: &TermDef) -> bool
 // What the `:` of a text decides.
 fn expand_parts<T: Terms>(alloc: Global, terms: &T, text: &Text) -> Result<Option<Text>, Memory>
     requires { T.is_ready terms.now }
-    ensures { IfOk result (λ iri. iri ≡ by_split (expanding_table None (T.terms terms.now)) text.now (split_of text.now)) }
+    ensures { IfOk result (λ iri.
+        iri
+        ≡ by_split (expanding_table None (T.terms terms.now)) text.now (split_of text.now)) }
 {
     match split_of(text.as_str()) {
         Split::Unsplit => Ok(None),

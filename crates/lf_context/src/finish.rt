@@ -35,7 +35,9 @@ pub fn finish_expanded(
     wanted: &Wanted,
     found: Option<Text>,
 ) -> Result<Turn, ContextErr>
-    ensures turn { IsPart (iri_expanded_turn wanted.now (table_in table.now) name.now (json_data value.now) found) result }
+    ensures turn { IsPart
+        (iri_expanded_turn wanted.now (table_in table.now) name.now (json_data value.now) found)
+        result }
     ensures later { IfOk result (IsFor name.now 3) }
 {
     match wanted {
@@ -114,7 +116,8 @@ fn finish_id(
     coercion: &Option<Text>,
     found: Option<Text>,
 ) -> Result<Turn, ContextErr>
-    ensures turn { IsPart (id_turn (table_in table.now) name.now (json_data value.now) coercion.now found) result }
+    ensures turn { IsPart (id_turn (table_in table.now) name.now (json_data value.now) coercion.now found)
+        result }
     ensures later { IfOk result (IsFor name.now 3) }
 {
     let iri = named_iri(found)?;
@@ -157,7 +160,8 @@ pub fn confirm(
     coercion: &Option<Text>,
     iri: &Text,
 ) -> Result<Turn, ContextErr>
-    ensures turn { IsPart (confirming_turn (table_in table.now) name.now (json_data value.now) coercion.now iri.now) result }
+    ensures turn { IsPart (confirming_turn (table_in table.now) name.now (json_data value.now) coercion.now
+        iri.now) result }
     ensures later { IfOk result (IsFor name.now 2) }
 {
     let found = expand_in(alloc, table, name)?;
@@ -186,7 +190,8 @@ pub fn finish_by_prefix(
     value: &Json,
     coercion: &Option<Text>,
 ) -> Result<Turn, ContextErr>
-    ensures turn { IsPart (by_prefix_turn (table_in table.now) name.now (json_data value.now) coercion.now) result }
+    ensures turn { IsPart (by_prefix_turn (table_in table.now) name.now (json_data value.now) coercion.now)
+        result }
     ensures later { IfOk result (IsFor name.now 2) }
 {
     let found = iri_by_prefix(alloc, table, name)?;
@@ -195,7 +200,10 @@ pub fn finish_by_prefix(
 }
 
 fn iri_by_prefix(alloc: Global, table: &Drafted, name: &Text) -> Result<Text, Memory>
-    ensures { IfOk result (λ iri. iri ≡ iri_by_prefix name.now (find_term (before_colon name.now) (table_in table.now).terms)) }
+    ensures { IfOk result (λ iri.
+        iri
+        ≡ iri_by_prefix name.now
+        (find_term (before_colon name.now) (table_in table.now).terms)) }
 {
     let (before, after) = cut_at_colon(name.as_str());
     let prefix = Text::of(alloc, before)?;

@@ -1,4 +1,5 @@
-//! Contexts read: term tables, and texts expanded by them (JSON-LD 1.1 Processing Algorithms and API, sections 4 and 5).
+//! Contexts read: term tables, and texts expanded by them (JSON-LD 1.1 Processing Algorithms and
+//! API, sections 4 and 5).
 #![tactic(auto)]
 
 mod context;

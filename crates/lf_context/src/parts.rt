@@ -1,4 +1,5 @@
-//! The parts of a term definition that need no other term: the container, the language, whether it may be a prefix.
+//! The parts of a term definition that need no other term: the container, the language, whether it
+//! may be a prefix.
 ghost use Rattle.std.specs.Prelude.{◌≡◌};
 ghost use Rattle.lf_model.specs.JsonBridge.{json_data, items_data, members_data};
 ghost use Rattle.lf_model.specs.JsonData.{array, item, no_items};
@@ -134,7 +135,8 @@ fn container_alone(only: &Json) -> Option<Container>
 }
 
 fn container_both(one: &Json, two: &Json) -> Option<Container>
-    ensures { result ≡ container_given (array (item (json_data one.now) (item (json_data two.now) no_items))) }
+    ensures { result
+        ≡ container_given (array (item (json_data one.now) (item (json_data two.now) no_items))) }
 {
     match one {
         Json::Text(first) => match two {
@@ -155,7 +157,8 @@ fn container_both(one: &Json, two: &Json) -> Option<Container>
     }
 }
 
-/// The container of a term that is no reverse property (JSON-LD 1.1 Processing Algorithms and API, section 4.2.2, step 19).
+/// The container of a term that is no reverse property (JSON-LD 1.1 Processing Algorithms and API,
+/// section 4.2.2, step 19).
 pub fn container_of(value: Option<&Json>) -> Result<Container, LdError>
     ensures { result ≡ container_of (data_of value.entry) }
 {

@@ -1,4 +1,5 @@
-//! How the definition of a term begins (JSON-LD 1.1 Processing Algorithms and API, section 4.2.2, steps 2 to 6).
+//! How the definition of a term begins (JSON-LD 1.1 Processing Algorithms and API, section 4.2.2,
+//! steps 2 to 6).
 ghost use Rattle.std.specs.Prelude.{◌≡◌, List, ℕ, IfOk};
 ghost use Rattle.lf_model.specs.JsonBridge.{json_data, items_data, members_data};
 ghost use Rattle.lf_model.specs.JsonData.{array, object, item, no_items};

@@ -56,7 +56,8 @@ impl Terms for TermTable {
     }
 }
 
-// Where the definition of a name stands among definitions in byte order of their names, or would stand.
+// Where the definition of a name stands among definitions in byte order of their names, or would
+// stand.
 fn place_of(terms: &[TermDef], name: &Text) -> Result<usize, usize>
     requires { IsTrue (ascends terms.now) }
     ensures found { IfOk result (λ place. slice_get terms.now place ≡ find_term name.now terms.now) }

@@ -123,7 +123,8 @@ fn begin_type(
     value: &Json,
     words: &Text,
 ) -> Result<Turn, ContextErr>
-    ensures turn { IsPart (type_whole_turn (table_in table.now) name.now (json_data value.now) words.now) result }
+    ensures turn { IsPart (type_whole_turn (table_in table.now) name.now (json_data value.now) words.now)
+        result }
     ensures later { IfOk result (IsFor name.now 7) }
 {
     if is_keyword(words.as_str()) || has_keyword_form(words.as_str()) {
@@ -146,7 +147,8 @@ pub fn type_prefix(
     value: &Json,
     words: &Text,
 ) -> Result<Turn, ContextErr>
-    ensures turn { IsPart (type_prefix_turn (table_in table.now) name.now (json_data value.now) words.now) result }
+    ensures turn { IsPart (type_prefix_turn (table_in table.now) name.now (json_data value.now) words.now)
+        result }
     ensures later { IfOk result (IsFor name.now 6) }
 {
     match prefix_of_text(alloc, table, words)? {
@@ -170,7 +172,8 @@ pub fn type_expanding(
     value: &Json,
     words: &Text,
 ) -> Result<Turn, ContextErr>
-    ensures turn { IsPart (type_expanding_turn (table_in table.now) name.now (json_data value.now) words.now) result }
+    ensures turn { IsPart (type_expanding_turn (table_in table.now) name.now (json_data value.now) words.now)
+        result }
     ensures later { IfOk result (IsFor name.now 5) }
 {
     let found = expand_in(alloc, table, words)?;
@@ -186,7 +189,8 @@ fn type_expanded(
     value: &Json,
     found: &Option<Text>,
 ) -> Result<Turn, ContextErr>
-    ensures turn { IsPart (type_expanded_turn (table_in table.now) name.now (json_data value.now) found.now) result }
+    ensures turn { IsPart (type_expanded_turn (table_in table.now) name.now (json_data value.now) found.now)
+        result }
     ensures later { IfOk result (IsFor name.now 5) }
 {
     match found {
@@ -235,7 +239,8 @@ fn begin_reverse(
     coercion: &Option<Text>,
     reverse: &Json,
 ) -> Result<Turn, ContextErr>
-    ensures turn { IsPart (reverse_begun_turn (table_in table.now) name.now (json_data value.now) coercion.now (json_data reverse.now)) result }
+    ensures turn { IsPart (reverse_begun_turn (table_in table.now) name.now (json_data value.now) coercion.now
+        (json_data reverse.now)) result }
     ensures later { IfOk result (IsFor name.now 5) }
 {
     if part(value, "@id").is_some() {
@@ -285,7 +290,8 @@ fn begin_by_id(
     coercion: &Option<Text>,
     id: &Text,
 ) -> Result<Turn, ContextErr>
-    ensures turn { IsPart (named_turn (naming_of_id name.now id.now) (table_in table.now) name.now (json_data value.now) coercion.now) result }
+    ensures turn { IsPart (named_turn (naming_of_id name.now id.now) (table_in table.now) name.now
+        (json_data value.now) coercion.now) result }
     ensures later { IfOk result (IsFor name.now 5) }
 {
     if id.as_str() == name.as_str() {
@@ -300,7 +306,8 @@ fn begin_by_id(
     turn
 }
 
-// A name with `:` behind its first byte needs the term before it; any other goes behind the vocabulary mapping.
+// A name with `:` behind its first byte needs the term before it; any other goes behind the
+// vocabulary mapping.
 fn begin_by_name(
     alloc: Global,
     table: &Drafted,
@@ -308,7 +315,8 @@ fn begin_by_name(
     value: &Json,
     coercion: &Option<Text>,
 ) -> Result<Turn, ContextErr>
-    ensures turn { IsPart (by_name_turn (has_later_colon name.now) (table_in table.now) name.now (json_data value.now) coercion.now) result }
+    ensures turn { IsPart (by_name_turn (has_later_colon name.now) (table_in table.now) name.now
+        (json_data value.now) coercion.now) result }
     ensures later { IfOk result (IsFor name.now 5) }
 {
     if has_later_colon(name.as_str()) {
@@ -339,7 +347,8 @@ fn begin_iri(
     words: &Text,
     wanted: &Wanted,
 ) -> Result<Turn, ContextErr>
-    ensures turn { IsPart (iri_whole_turn (table_in table.now) name.now (json_data value.now) words.now wanted.now) result }
+    ensures turn { IsPart (iri_whole_turn (table_in table.now) name.now (json_data value.now) words.now
+        wanted.now) result }
     ensures later { IfOk result (IsFor name.now 5) }
 {
     if is_keyword(words.as_str()) || has_keyword_form(words.as_str()) {
@@ -364,7 +373,8 @@ pub fn iri_prefix(
     words: &Text,
     wanted: &Wanted,
 ) -> Result<Turn, ContextErr>
-    ensures turn { IsPart (iri_prefix_turn (table_in table.now) name.now (json_data value.now) words.now wanted.now) result }
+    ensures turn { IsPart (iri_prefix_turn (table_in table.now) name.now (json_data value.now) words.now
+        wanted.now) result }
     ensures later { IfOk result (IsFor name.now 4) }
 {
     match prefix_of_text(alloc, table, words)? {
@@ -390,7 +400,8 @@ pub fn iri_expanding(
     words: &Text,
     wanted: &Wanted,
 ) -> Result<Turn, ContextErr>
-    ensures turn { IsPart (iri_expanding_turn (table_in table.now) name.now (json_data value.now) words.now wanted.now) result }
+    ensures turn { IsPart (iri_expanding_turn (table_in table.now) name.now (json_data value.now) words.now
+        wanted.now) result }
     ensures later { IfOk result (IsFor name.now 3) }
 {
     let found = expand_in(alloc, table, words)?;

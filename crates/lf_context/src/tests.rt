@@ -1,4 +1,5 @@
-//! The first condition that is met names the error, texts that expand by a table, and long chains of terms.
+//! The first condition that is met names the error, texts that expand by a table, and long chains
+//! of terms.
 ghost use Rattle.std.specs.Prelude.{◌<◌, IfOk, IsTrue};
 ghost use Rattle.def_contexts.specs.TableLaws.{ascends};
 

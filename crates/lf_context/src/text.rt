@@ -182,7 +182,8 @@ pub fn ends_in_gen_delim(text: &str) -> bool
     }
 }
 
-/// What stands before the first `:` of a text, and what stands after it; without a `:` all stands before it.
+/// What stands before the first `:` of a text, and what stands after it; without a `:` all stands
+/// before it.
 pub fn cut_at_colon(text: &str) -> (&str, &str)
     ensures before { result.0.now ≡ before_colon text.now }
     ensures after { result.1.now ≡ after_colon text.now }

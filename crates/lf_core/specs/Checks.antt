@@ -20,7 +20,8 @@ abbrev pub Reads : FrameText → Result Frame RegisterErr → Type 0
 Reads told (Ok frame) = told ≡ accepted (frame_meaning frame)
 Reads told (Err error) = (limits : Result Bool RegisterErr) → Fails error (text_answer told limits)
 
--- the frame of a text that is new under its name, none where it is live there already, or why it is refused
+-- the frame of a text that is new under its name, none where it is live there already, or why it is
+-- refused
 abbrev pub Tries : FrameText → Result Bool RegisterErr → Result (Option Frame) RegisterErr → Type 0
 Tries told answer (Ok (Some frame)) = (answer ≡ Ok true) × (told ≡ accepted (frame_meaning frame))
 Tries told answer (Ok None) = answer ≡ Ok false
@@ -29,7 +30,8 @@ Tries told answer (Err error) = Fails error answer
 -- what the limits of the history say of a patch of so many bytes
 abbrev pub history_answer : List Operation → ℕ → Result (Unit {0}) CommitErr
 history_answer history bytes =
-    if not (nat_lt (commits history) most_commits) then Err (c.HistoryFull Commits (commits history) most_commits)
+    if not (nat_lt (commits history) most_commits)
+    then Err (c.HistoryFull Commits (commits history) most_commits)
     else if nat_lt most_text_bytes (text_bytes history + bytes)
     then Err (c.HistoryFull Bytes (text_bytes history) most_text_bytes)
     else Ok tt

@@ -1,4 +1,5 @@
--- The stored history: its entries as the operations that they are. A commit's patch is shared with the versions.
+-- The stored history: its entries as the operations that they are. A commit's patch is shared with
+-- the versions.
 use Rattle.std.specs.Prelude.{List, [], ◌∷◌, ℕ, map}
 use Rattle.std.specs.Arc.{arc_value}
 use Rattle.lf_versions.specs.declared.commit.Commit as versions

@@ -1,4 +1,5 @@
--- What contracts see of a state: its history, the boards that are at home, and its places, which is room for entries.
+-- What contracts see of a state: its history, the boards that are at home, and its places, which is
+-- room for entries.
 use Rattle.std.specs.Prelude.{◌≡◌, List, [], ◌∷◌, ◌++◌, ℕ, nat_eq, suc, Bool, true, false, not, map, Option, None, Some, Result, Ok, Err}
 use Rattle.std.specs.List.{filter, flat_map, list_any, AllByRecursion}
 use Rattle.lf_rdf.specs.Equality.{text_eq}
@@ -34,8 +35,8 @@ held_of kept = held_by kept.live kept.board
 abbrev pub boards_of : List Kept → List Held
 boards_of frames = flat_map held_of frames
 
--- A board at home is that of a live text: it has the frame that the text means, and its version begins the history's commits.
--- By its type it has the document of that version, from scratch.
+-- A board at home is that of a live text: it has the frame that the text means, and its version
+-- begins the history's commits. By its type it has the document of that version, from scratch.
 pub record IsHeld (history : List Operation) (held : Held) : Type 0 where
   pub frame : Live
   pub live : live history held.name ≡ Some frame
@@ -63,7 +64,8 @@ abbrev pub numbers : List Live → List ℕ
 numbers frames = map (λ (frame : Live). frame.number) frames
 
 abbrev pub away_from : List Operation → List Held → List ℕ
-away_from history boards = filter (λ number. not (is_home boards number)) (numbers (live_frames history))
+away_from history boards =
+    filter (λ number. not (is_home boards number)) (numbers (live_frames history))
 
 abbrev pub away : Seen → List ℕ
 away seen = away_from seen.history seen.boards
@@ -72,7 +74,12 @@ away seen = away_from seen.history seen.boards
 pub record HasNewBoard (before : Seen) (name text : List ℕ) (boards : List Held) : Type 0 where
   pub frame : Frame
   pub read : IsMeant text frame
-  pub put : boards ≡ of_others name before.boards ++ record { name = name; number = suc (registrations before.history); board = unturned frame } ∷ []
+  pub put :
+      boards
+      ≡ of_others name before.boards
+      ++ record
+      { name = name; number = suc (registrations before.history); board = unturned frame }
+      ∷ []
 
 -- the boards after a registration: they stay, but where it is new
 abbrev pub RegistersBoard : Seen → List ℕ → List ℕ → Result Bool RegisterErr → List Held → Type 0

@@ -1,5 +1,5 @@
--- The live frames of a state, each beside the frame that its text means, its board where that is at home, and its published
--- document.
+-- The live frames of a state, each beside the frame that its text means, its board where that is at
+-- home, and its published document.
 use Rattle.std.specs.Prelude.{◌≡◌, ◌≤◌, List, [], ◌∷◌, ℕ, length, Bool, ◌&&◌, not, if◌then◌else◌, map, Option, None, Some, is_some}
 use Rattle.std.specs.Arc.{arc_value}
 use Rattle.std.specs.List.{filter, find, fold, AllByRecursion}
@@ -52,7 +52,8 @@ IsHome commits text (Some board) = IsMeant text board.frame × MayTurn board com
 abbrev pub IsShown : List Commit → List ℕ → Option ℕ → Option (Arc Doc Global) → Type 0
 IsShown commits text None None = Unit {0}
 IsShown commits text (Some version) (Some doc) =
-    (version ≤ length commits) × (arc_value doc ≡ document text (at_version (lines_of commits) version))
+    (version ≤ length commits)
+    × (arc_value doc ≡ document text (at_version (lines_of commits) version))
 IsShown commits text None (Some doc) = ⊥
 IsShown commits text (Some version) None = ⊥
 
@@ -85,7 +86,8 @@ next_kept newest frames = fold (better_kept newest) None frames
 
 abbrev pub updated : List ℕ → (Kept → Kept) → List Kept → List Kept
 updated name change [] = []
-updated name change (kept ∷ rest) = if has_name name kept then change kept ∷ rest else kept ∷ updated name change rest
+updated name change (kept ∷ rest) =
+    if has_name name kept then change kept ∷ rest else kept ∷ updated name change rest
 
 -- its board goes out
 abbrev pub without_board : Kept → Kept
@@ -93,12 +95,18 @@ without_board kept = record { live = kept.live; frame = kept.frame; board = None
 
 -- a board comes home
 abbrev pub with_board : Shown → Kept → Kept
-with_board board kept = record { live = kept.live; frame = kept.frame; board = Some board; doc = kept.doc }
+with_board board kept =
+    record { live = kept.live; frame = kept.frame; board = Some board; doc = kept.doc }
 
 -- a board comes home, and its document is published
 abbrev pub with_document : ℕ → Option (Arc Doc Global) → Shown → Kept → Kept
 with_document version doc board kept =
-    record { live = with_published kept.live (Some version); frame = kept.frame; board = Some board; doc = doc }
+    record {
+      live = with_published kept.live (Some version);
+      frame = kept.frame;
+      board = Some board;
+      doc = doc;
+    }
 
 -- a handle is that of a board's document, where there is a board
 abbrev pub HandlesBoard : Option Shown → Option Doc → Type 0

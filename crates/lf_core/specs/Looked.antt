@@ -17,7 +17,8 @@ ShowsAt kept need Unknown = ⊥
 ShowsAt kept need (Pending have needed) =
     (have ≡ kept.live.published) × (needed ≡ need) × (is_new_enough need have ≡ false)
 ShowsAt kept need (Document doc version) =
-    (kept.live.published ≡ Some version) × (need ≤ version) × (Some (arc_value doc) ≡ option_map arc_value kept.doc)
+    (kept.live.published ≡ Some version) × (need ≤ version)
+    × (Some (arc_value doc) ≡ option_map arc_value kept.doc)
 
 abbrev pub LooksAt : Kept → ℕ → Result Look Memory → Type 0
 LooksAt kept need (Ok look) = ShowsAt kept need look

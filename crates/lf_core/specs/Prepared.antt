@@ -28,10 +28,12 @@ abbrev pub registering : NewFrame → Operation
 registering new = Register new.seat new.name new.text
 
 abbrev pub prepares : Prepared → Prepares
-prepares (p.Commit commit version) = record { operation = committing (arc_value commit); version = Some version }
+prepares (p.Commit commit version) =
+    record { operation = committing (arc_value commit); version = Some version }
 prepares (p.Register new) = record { operation = registering new; version = None }
 
--- the handles of a new frame are of one name and one text, and its frame and its board are of the text
+-- the handles of a new frame are of one name and one text, and its frame and its board are of the
+-- text
 pub record IsNew (new : NewFrame) : Type 0 where
   pub name : new.live_name ≡ new.name
   pub text : new.live_text ≡ new.text
@@ -46,7 +48,8 @@ abbrev pub IsVersionOf : List Operation → Option (List versions.Commit) → Ty
 IsVersionOf history None = Unit {0}
 IsVersionOf history (Some version) = version ≡ commits_in history
 
--- it fits a history: with its operation the history is legal, and its version is that of the history then
+-- it fits a history: with its operation the history is legal, and its version is that of the
+-- history then
 pub record FitsOn (history : List Operation) (ready : Prepares) : Type 0 where
   pub legal : IsLegal is_frame (history ++ ready.operation ∷ [])
   pub version : IsVersionOf (history ++ ready.operation ∷ []) ready.version
@@ -59,10 +62,13 @@ ReadiesCommit history seat patch (Ok ready) =
     × FitsOn history ready)
 ReadiesCommit history seat patch (Err error) = CommitFails error (commit_answer history patch)
 
--- a registration is made ready: it would be accepted as new, or the text is live already, or it is refused
-abbrev pub ReadiesRegister : List Operation → ℕ → List ℕ → List ℕ → Result (Option Prepares) RegisterErr → Type 0
+-- a registration is made ready: it would be accepted as new, or the text is live already, or it is
+-- refused
+abbrev pub ReadiesRegister :
+    List Operation → ℕ → List ℕ → List ℕ → Result (Option Prepares) RegisterErr → Type 0
 ReadiesRegister history seat name text (Ok None) = register_answer history name text ≡ Ok false
 ReadiesRegister history seat name text (Ok (Some ready)) =
     (register_answer history name text ≡ Ok true)
-    × ((ready ≡ record { operation = Register seat name text; version = None }) × FitsOn history ready)
+    × ((ready ≡ record { operation = Register seat name text; version = None })
+    × FitsOn history ready)
 ReadiesRegister history seat name text (Err error) = Fails error (register_answer history name text)

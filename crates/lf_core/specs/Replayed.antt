@@ -9,10 +9,11 @@ use Rattle.lf_core.specs.declared.frames.Kept.{Kept}
 use Rattle.lf_core.specs.Entries.{commits_in}
 use Rattle.lf_core.specs.Kept.{AreKept, lives}
 
--- The commits, the live frames with what is kept of them, and the counts of a legal history. The history has room for the
--- retirement of each live frame, and for each place an entry and one retirement more; the frames have seats for all that may
--- be live.
-pub record IsReplayed (history : List Operation) (commits : List Commit) (frames : List Kept) (texts bytes places room seats : ℕ) : Type 0 where
+-- The commits, the live frames with what is kept of them, and the counts of a legal history. The
+-- history has room for the retirement of each live frame, and for each place an entry and one
+-- retirement more; the frames have seats for all that may be live.
+pub record IsReplayed (history : List Operation) (commits : List Commit) (frames : List Kept)
+    (texts bytes places room seats : ℕ) : Type 0 where
   pub legal : IsLegal is_frame history
   pub same_commits : commits ≡ commits_in history
   pub same_frames : lives frames ≡ live_frames history

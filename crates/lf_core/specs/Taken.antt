@@ -27,7 +27,12 @@ pub record Taken : Type 0 where
 
 abbrev pub job_data : Taken → Job
 job_data job =
-    record { name = job.name; number = job.number; board = patches_by job.board.version; target = lines_of job.target }
+    record {
+      name = job.name;
+      number = job.number;
+      board = patches_by job.board.version;
+      target = lines_of job.target;
+    }
 
 abbrev pub job_meaning : Taken → FrameMeaning
 job_meaning job = frame_meaning job.board.frame
@@ -39,7 +44,12 @@ FitsHistory history job = IsOwn history (job_meaning job) (job_data job)
 -- a job whose board was turned to the version that it was to reach
 abbrev pub turned_job : Taken → Taken
 turned_job job =
-    record { name = job.name; number = job.number; board = turned job.board.frame job.target; target = job.target }
+    record {
+      name = job.name;
+      number = job.number;
+      board = turned job.board.frame job.target;
+      target = job.target;
+    }
 
 -- the job's board, as it is at home
 abbrev pub held_job : Taken → Held
@@ -49,7 +59,8 @@ held_job job = record { name = job.name; number = job.number; board = job.board 
 abbrev pub home_of : ℕ → List Held → Option Held
 home_of number boards = find (λ (held : Held). nat_eq number held.number) boards
 
--- a job was taken: it is that of the frame whose turn is next, which has its board at home, and that board is in it as it was
+-- a job was taken: it is that of the frame whose turn is next, which has its board at home, and
+-- that board is in it as it was
 pub record IsNextOf (before : Seen) (boards : List Held) (job : Taken) : Type 0 where
   pub frame : Live
   pub next : next_frame (away before) before.history ≡ Some frame
@@ -62,7 +73,8 @@ pub record IsNextOf (before : Seen) (boards : List Held) (job : Taken) : Type 0 
 
 -- what taking a board answers; where none was taken, all boards stay
 abbrev pub IsTakenFrom : Seen → List Held → Result (Option Taken) Memory → Type 0
-IsTakenFrom before boards (Ok None) = (next_frame (away before) before.history ≡ None) × (boards ≡ before.boards)
+IsTakenFrom before boards (Ok None) =
+    (next_frame (away before) before.history ≡ None) × (boards ≡ before.boards)
 IsTakenFrom before boards (Ok (Some job)) = IsNextOf before boards job
 IsTakenFrom before boards (Err refused) = boards ≡ before.boards
 

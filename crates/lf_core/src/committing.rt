@@ -44,7 +44,8 @@ fn shared(alloc: Global, seat: u64, patch: Patch) -> Result<(Arc<Commit>, Arc<Co
 }
 
 impl State {
-    /// Makes a commit ready. It refuses as `commit` does, and changes nothing that contracts see but places.
+    /// Makes a commit ready. It refuses as `commit` does, and changes nothing that contracts see
+    /// but places.
     pub fn ready_commit(
         &mut self,
         alloc: Global,
@@ -72,9 +73,10 @@ impl State {
         }
     }
 
-    /// Commits a patch as the next version, also where it changes nothing, and gives the version's number. The refusals
-    /// are those of `Desk::commit`, in its order; they and `Memory` leave the state as it was. Its time grows with the
-    /// lines of the patch, and as the logarithm of the version's quads.
+    /// Commits a patch as the next version, also where it changes nothing, and gives the version's
+    /// number. The refusals are those of `Desk::commit`, in its order; they and `Memory` leave the
+    /// state as it was. Its time grows with the lines of the patch, and as the logarithm of the
+    /// version's quads.
     pub fn commit(&mut self, alloc: Global, seat: u64, patch: Patch) -> Result<u64, CommitErr>
         ensures answer { CommitAnswers result (commit_answer self.old.history patch) }
         ensures entry { self.new.history ≡ self.old.history ++ committed_by seat patch result }

@@ -18,7 +18,8 @@ use lf_rdf::Patch;
 use std::alloc::Global;
 use std::sync::ledger::Ledger;
 
-/// One seat alone at a state. Contracts see the seat's number and the state's history, which is legal.
+/// One seat alone at a state. Contracts see the seat's number and the state's history, which is
+/// legal.
 #[derive(Drop)]
 pub struct CoreDesk {
     state: State,

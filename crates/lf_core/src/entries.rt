@@ -34,13 +34,15 @@ fn needed(places: usize, frames: usize) -> Option<usize>
     frames.checked_add(twice)
 }
 
-/// Makes room for one place more, and gives the number of places then. Each live frame has room for its retirement, and
-/// each place for an entry and the retirement of the frame that this may register.
+/// Makes room for one place more, and gives the number of places then. Each live frame has room for
+/// its retirement, and each place for an entry and the retirement of the frame that this may
+/// register.
 pub fn add_place(history: &mut Vec<Entry>, places: usize, frames: usize) -> Result<usize, Memory>
     ensures kept { history.new.items ≡ history.old.items }
     ensures room { vec_capacity history.old ≤ vec_capacity history.new }
     ensures places { IfOk result (λ more. more ≡ places + 1) }
-    ensures placed { IfOk result (λ more. length history.new.items + (frames + (more + more)) ≤ vec_capacity history.new) }
+    ensures placed { IfOk result
+        (λ more. length history.new.items + (frames + (more + more)) ≤ vec_capacity history.new) }
 {
     match needed(places, frames) {
         Some(more) => {

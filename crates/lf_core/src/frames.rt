@@ -1,4 +1,5 @@
-//! The live frames of a state, in order of their registrations: found by name, left out, and put behind the others.
+//! The live frames of a state, in order of their registrations: found by name, left out, and put
+//! behind the others.
 ghost use Rattle.std.specs.Prelude.{◌≡◌, ◌<◌, ◌≤◌, [], ◌∷◌, ◌++◌, length, vec_len, vec_capacity, IfOk, IfSome, OnSome, is_some};
 ghost use Rattle.std.specs.List.{position};
 ghost use Rattle.std.specs.Option.{option_copied};
@@ -11,7 +12,8 @@ use lf_model::{Doc, Frame};
 use std::alloc::Global;
 use std::sync::Arc;
 
-/// A live frame, the frame that its text means, its board where that is at home, and its published document.
+/// A live frame, the frame that its text means, its board where that is at home, and its published
+/// document.
 #[derive(Drop)]
 pub struct Kept {
     pub live: Live,

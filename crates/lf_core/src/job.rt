@@ -10,8 +10,8 @@ use std::alloc::Global;
 use std::marker::Model;
 use std::sync::ledger::Ledger;
 
-/// A board that is away, and the version that it is to reach. Contracts see the frame's name, its text number, the board
-/// and that version.
+/// A board that is away, and the version that it is to reach. Contracts see the frame's name, its
+/// text number, the board and that version.
 #[derive(Drop)]
 pub struct Job {
     pub(crate) frame: Text,

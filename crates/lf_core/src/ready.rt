@@ -12,7 +12,8 @@ use std::alloc::Global;
 use std::marker::Model;
 use std::sync::Arc;
 
-/// A frame that is to be registered. The entry takes one handle of its name and its text, and the live frame another.
+/// A frame that is to be registered. The entry takes one handle of its name and its text, and the
+/// live frame another.
 #[derive(Drop)]
 pub struct NewFrame {
     pub seat: u64,
@@ -35,7 +36,8 @@ pub enum Prepared {
     Register(NewFrame),
 }
 
-/// An operation that is ready to be put. Contracts see the operation and, for a commit, the version after it.
+/// An operation that is ready to be put. Contracts see the operation and, for a commit, the version
+/// after it.
 #[derive(Drop)]
 pub struct Ready {
     pub(crate) prepared: Prepared,

@@ -1,4 +1,5 @@
-//! Registrations: what they come to by the name, the text and the limits, in the order of `Desk::register`; made ready.
+//! Registrations: what they come to by the name, the text and the limits, in the order of
+//! `Desk::register`; made ready.
 ghost use Rattle.std.specs.Prelude.{◌≡◌, ◌≤◌, ◌+◌, ◌++◌, length, IfOk, OnOk};
 ghost use Rattle.lf_frames.specs.FrameTexts.{frame_text};
 ghost use Rattle.lf_desk.specs.RegisterAnswer.{Answers, text_answer, limits_answer, register_answer, registered_by};
@@ -37,7 +38,9 @@ fn tried_frame(
     text: &str,
 ) -> Result<Option<Frame>, RegisterErr>
     requires short { length text.now ≤ 65536 }
-    ensures { Tries (frame_text text.now) (text_answer (frame_text text.now) (limits_answer state.now.history name.now text.now)) result }
+    ensures { Tries (frame_text text.now)
+        (text_answer (frame_text text.now) (limits_answer state.now.history name.now text.now))
+        result }
 {
     let frame = match frame_of(alloc, text) {
         Ok(frame) => frame,
@@ -52,8 +55,8 @@ fn tried_frame(
     }
 }
 
-/// The frame of a text that may be registered under a name, none where the text is live there already, or why it is
-/// refused.
+/// The frame of a text that may be registered under a name, none where the text is live there
+/// already, or why it is refused.
 #[tactic(auto, unfolding(def_histories::specs::Legal::most_frame_bytes))]
 pub fn try_registration(
     alloc: Global,
@@ -78,8 +81,8 @@ pub fn try_registration(
 }
 
 impl State {
-    /// Makes a registration ready. It refuses as `register` does, and changes nothing that contracts see but places. `None`
-    /// is the same text again.
+    /// Makes a registration ready. It refuses as `register` does, and changes nothing that
+    /// contracts see but places. `None` is the same text again.
     pub fn ready_register(
         &mut self,
         alloc: Global,
@@ -107,9 +110,10 @@ impl State {
         }
     }
 
-    /// Registers a frame's text under a name, with a new board and no published document, and takes the place of the entry
-    /// that its retirement will make. Answers false where the text is live there already. The refusals are those of
-    /// `Desk::register`, in its order; they and `Memory` leave the state as it was.
+    /// Registers a frame's text under a name, with a new board and no published document, and takes
+    /// the place of the entry that its retirement will make. Answers false where the text is live
+    /// there already. The refusals are those of `Desk::register`, in its order; they and `Memory`
+    /// leave the state as it was.
     pub fn register(
         &mut self,
         alloc: Global,

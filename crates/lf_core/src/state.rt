@@ -1,4 +1,5 @@
-//! The state: one history and what replaying it gives. A session's desk and the command `frame` call it.
+//! The state: one history and what replaying it gives. A session's desk and the command `frame`
+//! call it.
 ghost use Rattle.std.specs.Prelude.{◌≡◌, ◌≤◌, ◌+◌, [], ◌∷◌, ◌++◌, IfOk, OnOk, is_some, if◌then◌else◌};
 ghost use Rattle.std.specs.Option.{option_copied, option_map};
 ghost use Rattle.def_contexts.specs.FrameValues.{frame_meaning};
@@ -25,8 +26,8 @@ use std::alloc::Global;
 use std::marker::Model;
 use std::sync::Arc;
 
-/// The newest version, the live frames with their boards and published documents, and the history that made them.
-/// Contracts see the history, the boards at home, and the places.
+/// The newest version, the live frames with their boards and published documents, and the history
+/// that made them. Contracts see the history, the boards at home, and the places.
 #[derive(Drop)]
 pub struct State {
     pub(crate) newest: Version,
@@ -75,7 +76,8 @@ impl State {
         })
     }
 
-    /// Each board at home is that of a live text, and its version begins the history's commits. It does nothing.
+    /// Each board at home is that of a live text, and its version begins the history's commits. It
+    /// does nothing.
     pub fn boards_are_of_live(&self)
         ensures { AreHeld self.now.history self.now.boards }
     {
@@ -98,7 +100,8 @@ impl State {
 
     /// The frame that is live under a name.
     pub fn frame_of(&self, name: &str) -> Option<&Frame>
-        ensures { MeansLive (live self.now.history name.now) (option_map frame_meaning (option_copied result)) }
+        ensures { MeansLive (live self.now.history name.now)
+            (option_map frame_meaning (option_copied result)) }
     {
         match find_kept(self.frames.as_slice(), name) {
             Some(kept) => Some(&kept.frame),
@@ -106,9 +109,9 @@ impl State {
         }
     }
 
-    /// What stands at a name for a caller that needs a version: `Unknown` exactly where no frame is live under it,
-    /// `Pending` exactly where its published version is none or below the needed one, else the published document.
-    /// `Memory` comes only in place of a document.
+    /// What stands at a name for a caller that needs a version: `Unknown` exactly where no frame is
+    /// live under it, `Pending` exactly where its published version is none or below the needed
+    /// one, else the published document. `Memory` comes only in place of a document.
     pub fn look(&self, name: &str, need: u64) -> Result<Look, Memory>
         ensures { Looks self.now.history name.now need result }
     {
@@ -125,8 +128,8 @@ impl State {
         Ok(frame_dataset(alloc, self.newest.index(), frame)?)
     }
 
-    /// The document of the newest version for the frame that is live under a name. Its time is that of the document, and
-    /// nothing is published.
+    /// The document of the newest version for the frame that is live under a name. Its time is that
+    /// of the document, and nothing is published.
     pub fn frame_now(&self, alloc: Global, name: &str) -> Result<Option<FramedNow>, Memory>
         ensures { Frames self.now.history name.now result }
     {
@@ -203,12 +206,15 @@ impl State {
         Ok(())
     }
 
-    /// Ends a frame, its board and its document. Answers false exactly where no frame is live under the name. Takes no
-    /// memory.
+    /// Ends a frame, its board and its document. Answers false exactly where no frame is live under
+    /// the name. Takes no memory.
     pub fn retire(&mut self, seat: u64, name: &str) -> bool
         ensures answer { result ≡ is_some (live self.old.history name.now) }
-        ensures entry { self.new.history ≡ (if result then self.old.history ++ Retire seat name.now ∷ [] else self.old.history) }
-        ensures boards { self.new.boards ≡ (if result then of_others name.now self.old.boards else self.old.boards) }
+        ensures entry { self.new.history
+            ≡ (if result then self.old.history ++ Retire seat name.now ∷ []
+            else self.old.history) }
+        ensures boards { self.new.boards
+            ≡ (if result then of_others name.now self.old.boards else self.old.boards) }
         ensures places { self.new.places ≡ self.old.places }
     {
         match take_name(&mut self.frames, name) {

@@ -76,8 +76,8 @@ fn next_kept(frames: &[Kept], newest: u64) -> Option<&Kept>
     best
 }
 
-// What a job takes beside the board: two handles of the frame's name, its text number, a handle of the board's document,
-// and the version that it is to reach.
+// What a job takes beside the board: two handles of the frame's name, its text number, a handle of
+// the board's document, and the version that it is to reach.
 #[derive(Drop)]
 struct Parts {
     frame: Text,
@@ -119,9 +119,10 @@ fn parts_of(alloc: Global, kept: &Kept, newest: &Version) -> Result<Parts, Memor
 }
 
 impl State {
-    /// Takes the board of the frame whose turn is next, to be brought to the newest version: of those that are behind and
-    /// have their board at home the one with the least published version, none before all, then the least name. `None`
-    /// comes exactly where there is none. It leaves one place more, for the publication.
+    /// Takes the board of the frame whose turn is next, to be brought to the newest version: of
+    /// those that are behind and have their board at home the one with the least published version,
+    /// none before all, then the least name. `None` comes exactly where there is none. It leaves
+    /// one place more, for the publication.
     pub fn take_board(&mut self, alloc: Global) -> Result<Option<Job>, Memory>
         ensures answer { IsTakenFrom self.old self.new.boards result }
         ensures history { self.new.history ≡ self.old.history }
@@ -160,9 +161,10 @@ impl State {
         }
     }
 
-    /// Gives a job back. `Superseded` comes exactly where its text isn't live under its name any more; then the board is
-    /// dropped. `Published` comes exactly where otherwise the board's version is above the published one, and the document
-    /// is published under the board's own version. Else the board is at home again. It takes no memory.
+    /// Gives a job back. `Superseded` comes exactly where its text isn't live under its name any
+    /// more; then the board is dropped. `Published` comes exactly where otherwise the board's
+    /// version is above the published one, and the document is published under the board's own
+    /// version. Else the board is at home again. It takes no memory.
     pub fn give_back(&mut self, job: Job) -> Turned
         requires fits { FitsHistory self.old.history job }
         requires place { NeedsPlace self.old job }
@@ -224,7 +226,8 @@ impl State {
         Turned::Home { frame, version }
     }
 
-    // The document of the job's board is published under the board's version, and the board is at home as it is.
+    // The document of the job's board is published under the board's version, and the board is at
+    // home as it is.
     fn publish(&mut self, job: Job) -> Turned
         requires fits { FitsHistory self.old.history job }
         requires newer { kind_of (given_job self.old.history job) ≡ Publishes }
@@ -291,7 +294,9 @@ fn number_of(frames: &[Kept], name: &str) -> Option<u64>
 
 // What giving a job back to a live frame would answer.
 fn given(kept: &Kept, job: &Job) -> Given
-    ensures { result ≡ kind_of (given_to (Some kept.now.live) job.now.name job.now.number (number job.now.board)) }
+    ensures { result
+        ≡ kind_of
+        (given_to (Some kept.now.live) job.now.name job.now.number (number job.now.board)) }
 {
     if kept.live.number != job.text_number {
         return Given::IsSuperseded;

@@ -1,4 +1,5 @@
--- The main definitions, by subject. Those of compaction that share a name with others are `CompactedValues` and `PropertyEntries`.
+-- The main definitions, by subject. Those of compaction that share a name with others are
+-- `CompactedValues` and `PropertyEntries`.
 
 -- terms, ids and canonical lines
 pub use Rattle.lf_rdf.specs.Vocabulary

@@ -1,5 +1,6 @@
-//! The types and the definitions of ldframes under one name. Each crate below it holds what belongs together, so that a
-//! change proves little anew; `docs/ARCHITECTURE.md` says which crate holds what.
+//! The types and the definitions of ldframes under one name. Each crate below it holds what belongs
+//! together, so that a change proves little anew; `docs/ARCHITECTURE.md` says which crate holds
+//! what.
 #![tactic(auto)]
 
 #[cfg(test)]

@@ -13,17 +13,23 @@ use Rattle.lf_desk.specs.RegisterAnswer.{register_answer}
 abbrev pub AcceptsAllowedPatches : Type 0
 AcceptsAllowedPatches =
     (history : List Operation) (seat : ℕ) (patch : Patch)
-    → (commit_answer history patch ≡ Ok (suc (commits history))) ↔ IsAllowed is_frame history (Commit seat patch)
+    →
+    (commit_answer history patch ≡ Ok (suc (commits history))) ↔ IsAllowed is_frame history
+    (Commit seat patch)
 
 -- a registration is accepted as new exactly where it is allowed
 abbrev pub AcceptsAllowedFrames : Type 0
 AcceptsAllowedFrames =
     (history : List Operation) (seat : ℕ) (name text : List ℕ)
-    → (register_answer history name text ≡ Ok true) ↔ IsAllowed is_frame history (Register seat name text)
+    →
+    (register_answer history name text ≡ Ok true) ↔ IsAllowed is_frame history
+    (Register seat name text)
 
--- a registration is no operation exactly where the name may be one, and the text, which isn't too long, is live there
+-- a registration is no operation exactly where the name may be one, and the text, which isn't too
+-- long, is live there
 abbrev pub SameTextAgain : Type 0
 SameTextAgain =
     (history : List Operation) (name text : List ℕ)
     → (register_answer history name text ≡ Ok false)
-    ↔ (IsTrue (is_frame_name name) × (length text ≤ most_frame_bytes) × (live_text history name ≡ Some text))
+    ↔ (IsTrue (is_frame_name name) × (length text ≤ most_frame_bytes)
+    × (live_text history name ≡ Some text))

@@ -1,4 +1,5 @@
--- A call of a desk: what others made before it comes first, and what the call itself made is the last entry.
+-- A call of a desk: what others made before it comes first, and what the call itself made is the
+-- last entry.
 use Rattle.std.specs.Prelude.{◌≡◌, List, [], ◌∷◌, ◌++◌, ℕ, Bool, true, false, is_some, Result, Ok, Err}
 use Rattle.lf_base.specs.declared.memory.Memory.{Memory}
 use Rattle.def_histories.specs.declared.operation.Operation.{Operation}
@@ -9,8 +10,10 @@ use Rattle.lf_frames.specs.FrameTexts.{is_frame}
 use Rattle.def_turns.specs.Turns.{still_live}
 use Rattle.lf_desk.specs.Seats.{IsExtended}
 
--- The histories before and after a call, what it made, and what its answer says of the history that it saw.
-pub record IsCall (alone : Bool) (seat : ℕ) (before after made : List Operation) (Says : List Operation → Type 0) : Type 0 where
+-- The histories before and after a call, what it made, and what its answer says of the history that
+-- it saw.
+pub record IsCall (alone : Bool) (seat : ℕ) (before after made : List Operation)
+    (Says : List Operation → Type 0) : Type 0 where
   pub seen : List Operation
   pub came : IsExtended alone seat before seen
   pub entered : after ≡ seen ++ made

@@ -1,4 +1,5 @@
--- What a commit answers, as a function of the history. Refusals stand in the order in which they are tried.
+-- What a commit answers, as a function of the history. Refusals stand in the order in which they
+-- are tried.
 use Rattle.std.specs.Prelude.{◌≡◌, List, [], ◌∷◌, ℕ, suc, ◌+◌, nat_lt, length, not, if◌then◌else◌, Result, Ok, Err}
 use Rattle.lf_rdf.specs.declared.quad.Patch.{Patch}
 use Rattle.lf_model.specs.declared.desk.Counted.TheVariants.{Commits, Bytes}
@@ -21,7 +22,8 @@ quads_after history patch = length (after (newest_dataset history) patch.lines)
 -- a commit gives the number of its version, or it is refused
 abbrev pub commit_answer : List Operation → Patch → Result ℕ CommitErr
 commit_answer history patch =
-    if not (nat_lt (commits history) most_commits) then Err (c.HistoryFull Commits (commits history) most_commits)
+    if not (nat_lt (commits history) most_commits)
+    then Err (c.HistoryFull Commits (commits history) most_commits)
     else if nat_lt most_text_bytes (text_bytes history + patch.bytes)
     then Err (c.HistoryFull Bytes (text_bytes history) most_text_bytes)
     else if nat_lt most_quads (quads_after history patch)

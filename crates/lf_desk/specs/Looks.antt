@@ -23,7 +23,8 @@ Shows history name need (Pending have needed) =
     (frame : Live) × (live history name ≡ Some frame) × (have ≡ frame.published) × (needed ≡ need)
     × (is_new_enough need have ≡ false)
 Shows history name need (Document doc version) =
-    (frame : Live) × (live history name ≡ Some frame) × (frame.published ≡ Some version) × (need ≤ version)
+    (frame : Live) × (live history name ≡ Some frame) × (frame.published ≡ Some version)
+    × (need ≤ version)
     × (arc_value doc ≡ document frame.text (dataset_at history version))
 
 -- A look answers so. Only in place of a document may no memory be found.

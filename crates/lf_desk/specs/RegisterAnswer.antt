@@ -1,4 +1,5 @@
--- What a registration answers, as a function of the history. Refusals stand in the order in which they are tried.
+-- What a registration answers, as a function of the history. Refusals stand in the order in which
+-- they are tried.
 use Rattle.std.specs.Prelude.{◌≡◌, List, [], ◌∷◌, ℕ, suc, ◌+◌, nat_lt, length, Bool, true, false, not, if◌then◌else◌, Some, Result, Ok, Err}
 use Rattle.lf_rdf.specs.Equality.{text_eq, option_eq}
 use Rattle.lf_model.specs.declared.desk.Counted.TheVariants.{Registrations, Bytes}
@@ -21,7 +22,8 @@ others history name = length (without name (live_frames history))
 -- the limits of a history that a registration meets
 abbrev pub limits_answer : List Operation → List ℕ → List ℕ → Result Bool RegisterErr
 limits_answer history name text =
-    if not (nat_lt (others history name) most_frames) then Err (r.TooManyFrames most_frames (suc most_frames))
+    if not (nat_lt (others history name) most_frames)
+    then Err (r.TooManyFrames most_frames (suc most_frames))
     else if not (nat_lt (registrations history) most_registrations)
     then Err (r.HistoryFull Registrations (registrations history) most_registrations)
     else if nat_lt most_text_bytes (text_bytes history + length text)

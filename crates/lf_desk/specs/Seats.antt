@@ -26,7 +26,8 @@ is_made_by seat entry = is_of_seat seat entry || is_publication entry
 abbrev pub own : ℕ → List Operation → List Operation
 own seat history = filter (is_of_seat seat) history
 
--- A history goes on by entries of others, publications among them. With a seat that is alone there are none.
+-- A history goes on by entries of others, publications among them. With a seat that is alone there
+-- are none.
 pub record IsExtended (alone : Bool) (seat : ℕ) (before after : List Operation) : Type 0 where
   pub more : List Operation
   pub follows : after ≡ before ++ more

@@ -21,10 +21,14 @@ typed = codes "{\"@type\":\"http://e/T\"}"
 -- 16 frames are live
 abbrev pub sixteen : List Operation
 sixteen =
-    Register 1 (codes "a") all ∷ Register 1 (codes "b") all ∷ Register 1 (codes "c") all ∷ Register 1 (codes "d") all
-    ∷ Register 1 (codes "e") all ∷ Register 1 (codes "f") all ∷ Register 1 (codes "g") all ∷ Register 1 (codes "h") all
-    ∷ Register 1 (codes "i") all ∷ Register 1 (codes "j") all ∷ Register 1 (codes "k") all ∷ Register 1 (codes "l") all
-    ∷ Register 1 (codes "m") all ∷ Register 1 (codes "n") all ∷ Register 1 (codes "o") all ∷ Register 1 (codes "p") all
+    Register 1 (codes "a") all ∷ Register 1 (codes "b") all ∷ Register 1 (codes "c") all
+    ∷ Register 1 (codes "d") all
+    ∷ Register 1 (codes "e") all ∷ Register 1 (codes "f") all ∷ Register 1 (codes "g") all
+    ∷ Register 1 (codes "h") all
+    ∷ Register 1 (codes "i") all ∷ Register 1 (codes "j") all ∷ Register 1 (codes "k") all
+    ∷ Register 1 (codes "l") all
+    ∷ Register 1 (codes "m") all ∷ Register 1 (codes "n") all ∷ Register 1 (codes "o") all
+    ∷ Register 1 (codes "p") all
     ∷ []
 
 -- a 17th name is refused
@@ -32,7 +36,8 @@ pub seventeenth : register_answer sixteen (codes "q") all ≡ Err (r.TooManyFram
 unfolding most_name most_frame_bytes texts_open most_frames most_registrations most_text_bytes
 seventeenth = refl
 
--- the text that is live is no new operation, and another text under a live name is one, also among 16 frames
+-- the text that is live is no new operation, and another text under a live name is one, also among
+-- 16 frames
 pub same_again : register_answer sixteen (codes "p") all ≡ Ok false
 unfolding most_name most_frame_bytes
 same_again = refl
@@ -67,7 +72,9 @@ pub too_long : commit_answer [] (idle 268435457) ≡ Err (c.HistoryFull counted.
 unfolding most_commits most_text_bytes
 too_long = refl
 
-pub full : commit_answer (Commit 1 (idle 268435456) ∷ []) (idle 1) ≡ Err (c.HistoryFull counted.Bytes 268435456 268435456)
+pub full :
+    commit_answer (Commit 1 (idle 268435456) ∷ []) (idle 1)
+    ≡ Err (c.HistoryFull counted.Bytes 268435456 268435456)
 unfolding most_commits most_text_bytes
 full = refl
 

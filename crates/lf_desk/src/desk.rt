@@ -16,10 +16,11 @@ use lf_model::{FramedNow, Look};
 use lf_rdf::Patch;
 use std::alloc::Global;
 
-/// A caller's place at a history, which is legal at all times, before the first call too. After each call it goes on from
-/// the one before. What is new in it with the seat's number is the operation that the call made, as its last entry. Each
-/// answer is a function of the history without that entry. A refusal makes no operation, and `Memory` may be answered at
-/// any time. With a seat that is alone no board goes out or comes home in these calls.
+/// A caller's place at a history, which is legal at all times, before the first call too. After
+/// each call it goes on from the one before. What is new in it with the seat's number is the
+/// operation that the call made, as its last entry. Each answer is a function of the history
+/// without that entry. A refusal makes no operation, and `Memory` may be answered at any time. With
+/// a seat that is alone no board goes out or comes home in these calls.
 pub trait Desk {
     /// No other seat makes operations, and nothing is published by others.
     ghost alone: { Self → Bool };
@@ -36,8 +37,9 @@ pub trait Desk {
     /// The texts whose boards the seat has taken, where it tells them.
     ghost taken: { Self → Option (List ℕ) };
 
-    /// Commits a patch as the next version, also where it changes nothing, and gives the version's number. The refusals
-    /// in their order: `HistoryFull` of commits (65,536) or of bytes (268,435,456); `TooManyQuads` (400,000).
+    /// Commits a patch as the next version, also where it changes nothing, and gives the version's
+    /// number. The refusals in their order: `HistoryFull` of commits (65,536) or of bytes
+    /// (268,435,456); `TooManyQuads` (400,000).
     fn commit(&mut self, alloc: Global, patch: Patch) -> Result<u64, CommitErr>
         ensures call { IsCall (alone self.old) (seat self.old) (history self.old) (history self.new)
             (committed_by (seat self.old) patch result) (λ seen. CommitAnswers result (commit_answer seen patch)) }
@@ -46,10 +48,11 @@ pub trait Desk {
         ensures same_taken { taken self.new ≡ taken self.old }
         ensures away { StaysAway (alone self.old) (history self.new) (away self.old) (away self.new) };
 
-    /// Registers a frame's text under a name. Answers false where the text is live there already, and then makes no
-    /// operation. `BadName` and `FrameTooLong` (65,536 bytes) come before that answer, and the other refusals behind it,
-    /// in this order: `NotJson`, `Fractional` and `Ld`, where the text is no frame; `TooManyFrames` (16 others);
-    /// `HistoryFull` of registrations (65,536) or of bytes (268,435,456).
+    /// Registers a frame's text under a name. Answers false where the text is live there already,
+    /// and then makes no operation. `BadName` and `FrameTooLong` (65,536 bytes) come before that
+    /// answer, and the other refusals behind it, in this order: `NotJson`, `Fractional` and `Ld`,
+    /// where the text is no frame; `TooManyFrames` (16 others); `HistoryFull` of registrations
+    /// (65,536) or of bytes (268,435,456).
     fn register(&mut self, alloc: Global, name: &str, text: &str) -> Result<bool, RegisterErr>
         ensures call { IsCall (alone self.old) (seat self.old) (history self.old) (history self.new)
             (registered_by (seat self.old) name.now text.now result)
@@ -59,7 +62,8 @@ pub trait Desk {
         ensures same_taken { taken self.new ≡ taken self.old }
         ensures away { StaysAway (alone self.old) (history self.new) (away self.old) (away self.new) };
 
-    /// Ends a frame. Answers false exactly where no frame is live under the name, and then makes no operation.
+    /// Ends a frame. Answers false exactly where no frame is live under the name, and then makes no
+    /// operation.
     fn retire(&mut self, alloc: Global, name: &str) -> Result<bool, Memory>
         ensures call { IsCall (alone self.old) (seat self.old) (history self.old) (history self.new)
             (retired_by (seat self.old) name.now result) (λ seen. Retires seen name.now result) }
@@ -77,9 +81,9 @@ pub trait Desk {
         ensures same_taken { taken self.new ≡ taken self.old }
         ensures away { StaysAway (alone self.old) (history self.new) (away self.old) (away self.new) };
 
-    /// What stands at a name for a caller that needs a version: `Unknown` exactly where no frame is live under it,
-    /// `Pending` exactly where its published version is none or below the needed one, else the published document.
-    /// `Memory` comes only in place of a document.
+    /// What stands at a name for a caller that needs a version: `Unknown` exactly where no frame is
+    /// live under it, `Pending` exactly where its published version is none or below the needed
+    /// one, else the published document. `Memory` comes only in place of a document.
     fn look(&mut self, alloc: Global, name: &str, need: u64) -> Result<Look, Memory>
         ensures call { IsCall (alone self.old) (seat self.old) (history self.old) (history self.new) []
             (λ seen. Looks seen name.now need result) }
@@ -88,7 +92,8 @@ pub trait Desk {
         ensures same_taken { taken self.new ≡ taken self.old }
         ensures away { StaysAway (alone self.old) (history self.new) (away self.old) (away self.new) };
 
-    /// Frames the newest version from scratch and publishes nothing. `None` comes exactly where the name isn't live.
+    /// Frames the newest version from scratch and publishes nothing. `None` comes exactly where the
+    /// name isn't live.
     fn frame_now(&mut self, alloc: Global, name: &str) -> Result<Option<FramedNow>, Memory>
         ensures call { IsCall (alone self.old) (seat self.old) (history self.old) (history self.new) []
             (λ seen. Frames seen name.now result) }

@@ -7,8 +7,8 @@ use thiserror::Error;
 /// Why a patch was not committed. The conditions stand in the order in which they are tried.
 #[derive(Clone, Copy, Debug, PartialEq, Eq, Error)]
 pub enum CommitErr {
-    /// The history has 65,536 commits, or the texts with this one would have more than 268,435,456 bytes. `have` is what
-    /// it counts before the patch.
+    /// The history has 65,536 commits, or the texts with this one would have more than 268,435,456
+    /// bytes. `have` is what it counts before the patch.
     #[error("history full: {have} of {limit} {of}")]
     HistoryFull { of: Counted, have: u64, limit: u64 },
     /// The version would have more than 400,000 quads.
@@ -40,7 +40,8 @@ pub enum RegisterErr {
     FrameTooLong { length: u64 },
     #[error("not JSON")]
     NotJson,
-    /// A number of the frame that is no whole number within range, by the JSON pointer of the first.
+    /// A number of the frame that is no whole number within range, by the JSON pointer of the
+    /// first.
     #[error("fractional number at {}", .path.as_str())]
     Fractional { path: Text },
     /// The first error of the context or of the frame.
@@ -49,7 +50,8 @@ pub enum RegisterErr {
     /// 16 other names are live.
     #[error("too many frames: {have}, and {would} with this one")]
     TooManyFrames { have: u64, would: u64 },
-    /// The history has 65,536 registrations, or the texts with this one would have more than 268,435,456 bytes.
+    /// The history has 65,536 registrations, or the texts with this one would have more than
+    /// 268,435,456 bytes.
     #[error("history full: {have} of {limit} {of}")]
     HistoryFull { of: Counted, have: u64, limit: u64 },
     #[error("out of memory")]

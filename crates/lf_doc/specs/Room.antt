@@ -7,7 +7,8 @@ use Rattle.def_framing.specs.Outcome.{Outcome, not_key, no_match, matched, past}
 abbrev pub room_after : ℕ → ℕ → Option ℕ
 room_after items room = if nat_lt room items then None else Some (room - items)
 
--- the room that an outcome leaves, or none where it decides the document: a limit, or a tree with more items than there is room
+-- the room that an outcome leaves, or none where it decides the document: a limit, or a tree with
+-- more items than there is room
 abbrev pub room_of : Outcome → ℕ → Option ℕ
 room_of not_key room = Some room
 room_of no_match room = Some room

@@ -1,4 +1,5 @@
-//! The document of a frame and of outcomes, as a program asks for it (JSON-LD 1.1 Framing, section 4.1).
+//! The document of a frame and of outcomes, as a program asks for it (JSON-LD 1.1 Framing, section
+//! 4.1).
 ghost use Rattle.std.specs.Prelude.{◌≡◌, Err, IfOk, List, Option, map};
 ghost use Rattle.lf_model.specs.declared.table.TermTable.{TermTable};
 ghost use Rattle.lf_model.specs.JsonData.{JsonValue};
@@ -59,11 +60,12 @@ fn printed(alloc: Global, frame: &Frame, outcomes: &OutcomeList) -> Result<Doc, 
     }
 }
 
-/// The document of a frame and of the outcomes of a dataset's terms, in order of the terms: a limit of framing, else the
-/// error `IRI confused with prefix`, else the limit of its bytes, else its text (JSON-LD 1.1 Framing, section 4.1). It has
-/// at most 262,144 items and 33,554,432 bytes. Its time grows as n log n in the items, the terms of the context and the
-/// bytes; the context is turned round once. Its calls go as deep as the trees nest: lists nested as deep as a tree has items,
-/// 65,536, take below 64 MiB of stack.
+/// The document of a frame and of the outcomes of a dataset's terms, in order of the terms: a limit
+/// of framing, else the error `IRI confused with prefix`, else the limit of its bytes, else its
+/// text (JSON-LD 1.1 Framing, section 4.1). It has at most 262,144 items and 33,554,432 bytes. Its
+/// time grows as n log n in the items, the terms of the context and the bytes; the context is
+/// turned round once. Its calls go as deep as the trees nest: lists nested as deep as a tree has
+/// items, 65,536, take below 64 MiB of stack.
 pub fn assemble(alloc: Global, frame: &Frame, outcomes: &OutcomeList) -> Result<Doc, Memory>
     ensures { IfOk result (λ doc. doc ≡ document_of frame.now (map outcome_data outcomes.now)) }
 {

@@ -1,4 +1,5 @@
-//! The context that a document shows: the frame's without its `@version` entries (JSON-LD 1.1 Framing, section 4.1).
+//! The context that a document shows: the frame's without its `@version` entries (JSON-LD 1.1
+//! Framing, section 4.1).
 ghost use Rattle.std.specs.Prelude.{◌≡◌, IfOk, option_map};
 ghost use Rattle.lf_model.specs.JsonBridge.{items_data, json_data, members_data};
 ghost use Rattle.def_documents.specs.PrintedContext.{context_entry, items_without_version, members_without_version, shown, without_version};
@@ -47,7 +48,8 @@ fn copy_items(alloc: Global, items: &JsonList) -> Result<JsonList, Memory>
 
 #[cycle(copying)]
 fn copy_members(alloc: Global, members: &JsonMap) -> Result<JsonMap, Memory>
-    ensures { IfOk result (λ copied. members_data copied ≡ members_without_version (members_data members.now)) }
+    ensures { IfOk result
+        (λ copied. members_data copied ≡ members_without_version (members_data members.now)) }
 {
     let mut copied = Vec::new(alloc);
     for member in members.as_slice() {
@@ -91,7 +93,8 @@ fn shown(context: Json) -> Option<Json>
 
 /// The context that a document shows, where there is one. Its time grows with the context.
 pub fn shown_context(alloc: Global, context: &Json) -> Result<Option<Json>, Memory>
-    ensures { IfOk result (λ found. context_entry (json_data context.now) ≡ entry_of (option_map json_data found)) }
+    ensures { IfOk result
+        (λ found. context_entry (json_data context.now) ≡ entry_of (option_map json_data found)) }
 {
     Ok(shown(copy_value(alloc, context)?))
 }

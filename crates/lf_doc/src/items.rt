@@ -12,8 +12,8 @@ fn one_item(room: u64) -> Option<u64>
     if room == 0 { None } else { Some(room - 1) }
 }
 
-/// The room that is left when the items of a tree are taken off, or none where there are more items than room. It looks at
-/// no more items than there is room.
+/// The room that is left when the items of a tree are taken off, or none where there are more items
+/// than room. It looks at no more items than there is room.
 #[cycle(counting)]
 #[tactic(auto, unfolding(def_framing::specs::Items::node_items))]
 pub fn tree_room(tree: &Tree, room: u64) -> Option<u64>

@@ -1,4 +1,5 @@
-//! The document of a frame and of what it gives for the terms of a dataset (JSON-LD 1.1 Framing, section 4).
+//! The document of a frame and of what it gives for the terms of a dataset (JSON-LD 1.1 Framing,
+//! section 4).
 #![tactic(auto)]
 
 mod assembly;

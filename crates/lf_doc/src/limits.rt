@@ -1,4 +1,5 @@
-//! The limits that outcomes meet before a document is made of them (JSON-LD 1.1 Framing, section 4.1).
+//! The limits that outcomes meet before a document is made of them (JSON-LD 1.1 Framing, section
+//! 4.1).
 ghost use Rattle.std.specs.Prelude.{◌≡◌, map, length};
 ghost use Rattle.def_framing.specs.OutcomeBridge.{outcome_data};
 ghost use Rattle.def_documents.specs.Document.{gathered};
@@ -9,9 +10,11 @@ use crate::items::tree_room;
 use def_documents::item_limit;
 use lf_model::{Limit, Outcome, OutcomeList};
 
-/// The limit that decides, if any: outcome by outcome a limit, or the tree that takes the sum of items above 262,144.
+/// The limit that decides, if any: outcome by outcome a limit, or the tree that takes the sum of
+/// items above 262,144.
 pub fn first_limit(outcomes: &OutcomeList) -> Option<Limit>
-    ensures { gathered 0 (map outcome_data outcomes.now) ≡ gathered_by result (trees_of (map outcome_data outcomes.now)) }
+    ensures { gathered 0 (map outcome_data outcomes.now)
+        ≡ gathered_by result (trees_of (map outcome_data outcomes.now)) }
 {
     let mut room = item_limit();
     for outcome in outcomes.as_slice() {
@@ -28,10 +31,10 @@ pub fn first_limit(outcomes: &OutcomeList) -> Option<Limit>
     None
 }
 
-/// The room for items that an outcome leaves of some room, or none where it decides the document: by
-/// a limit of its own, or since its tree has more items than there is room. From the room of 262,144
-/// items on, what comes behind the first such outcome changes nothing, so whoever makes a document's
-/// outcomes one after another may stop at it.
+/// The room for items that an outcome leaves of some room, or none where it decides the document:
+/// by a limit of its own, or since its tree has more items than there is room. From the room of
+/// 262,144 items on, what comes behind the first such outcome changes nothing, so whoever makes a
+/// document's outcomes one after another may stop at it.
 pub fn room_left(outcome: &Outcome, room: u64) -> Option<u64>
     ensures { result ≡ room_of (outcome_data outcome.now) room }
 {

@@ -1,5 +1,5 @@
-//! The compacted trees of a document (JSON-LD 1.1 Framing, section 4.1, and JSON-LD 1.1 Processing Algorithms and API,
-//! section 5.1).
+//! The compacted trees of a document (JSON-LD 1.1 Framing, section 4.1, and JSON-LD 1.1 Processing
+//! Algorithms and API, section 5.1).
 ghost use Rattle.std.specs.Prelude.{◌≡◌, ◌++◌, ◌∷◌, [], OnOk, map};
 ghost use Rattle.lf_model.specs.JsonBridge.{json_data};
 ghost use Rattle.lf_model.specs.TreeBridge.{tree_data};
@@ -26,20 +26,23 @@ fn tidied_map(
     counts: &Counts,
     tree: &Tree,
 ) -> Result<Json, CompactErr>
-    ensures { Compacted result (compact inverse.now (prune_node (count_in counts.now) (tree_data tree.now))) }
+    ensures { Compacted result
+        (compact inverse.now (prune_node (count_in counts.now) (tree_data tree.now))) }
 {
     let tree = tidy(alloc, tree, counts)?;
     compact_with(alloc, inverse, &tree)
 }
 
 fn keep(maps: &mut Vec<Json>, found: Json) -> Result<(), Memory>
-    ensures { OnOk result (map json_data maps.new.items ≡ map json_data maps.old.items ++ json_data found ∷ []) }
+    ensures { OnOk result
+        (map json_data maps.new.items ≡ map json_data maps.old.items ++ json_data found ∷ []) }
 {
     maps.push(found)?;
     Ok(())
 }
 
-/// The compacted trees, or the error of the first that isn't compacted. Each tree borrows the one inverse.
+/// The compacted trees, or the error of the first that isn't compacted. Each tree borrows the one
+/// inverse.
 pub fn maps_of(
     alloc: Global,
     inverse: &Inverse,

@@ -65,7 +65,8 @@ pub fn write(alloc: Global, sheet: &mut Sheet, json: &Json) -> Result<(), Memory
 
 #[cycle(writing)]
 fn write_items(alloc: Global, sheet: &mut Sheet, items: &JsonList) -> Result<(), Memory>
-    ensures { OnOk result (sheet.new ≡ appended sheet.old (json_array (item_texts (items_data items.now)))) }
+    ensures { OnOk result
+        (sheet.new ≡ appended sheet.old (json_array (item_texts (items_data items.now)))) }
 {
     sheet.append(alloc, "[")?;
     let mut after = false;
@@ -79,7 +80,8 @@ fn write_items(alloc: Global, sheet: &mut Sheet, items: &JsonList) -> Result<(),
 
 #[cycle(writing)]
 fn write_members(alloc: Global, sheet: &mut Sheet, members: &JsonMap) -> Result<(), Memory>
-    ensures { OnOk result (sheet.new ≡ appended sheet.old (json_object (member_texts (members_data members.now)))) }
+    ensures { OnOk result
+        (sheet.new ≡ appended sheet.old (json_object (member_texts (members_data members.now)))) }
 {
     sheet.append(alloc, "{")?;
     let mut after = false;

@@ -12,12 +12,13 @@ use std::alloc::Global;
 use std::marker::Model;
 use std::mem;
 
-/// A text under way. Contracts see it as its bytes, or as none where it passed the limit of a document's bytes: then
-/// nothing more is kept.
+/// A text under way. Contracts see it as its bytes, or as none where it passed the limit of a
+/// document's bytes: then nothing more is kept.
 #[derive(Drop)]
 pub struct Sheet {
     bytes: Vec<u8>,
-    /// Room in which strings are made: a `Writer` gets ready as many bytes again as it finds, up to a limit.
+    /// Room in which strings are made: a `Writer` gets ready as many bytes again as it finds, up to
+    /// a limit.
     room: Vec<u8>,
     over: bool,
 }

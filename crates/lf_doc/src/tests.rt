@@ -124,7 +124,8 @@ fn blank(alloc: Global, label: &str) -> Result<Term, Memory> {
     Ok(Term::Blank(Text::of(alloc, label)?))
 }
 
-/// The document of two trees that share one blank node, the first of which has an id of its own that is counted once.
+/// The document of two trees that share one blank node, the first of which has an id of its own
+/// that is counted once.
 fn two_trees(alloc: Global) -> Result<Doc, Memory> {
     let mut outcomes = OutcomeList::new(alloc);
     outcomes.push(pointing(alloc, blank(alloc, "b")?, blank(alloc, "x")?)?)?;

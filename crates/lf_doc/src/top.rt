@@ -1,4 +1,5 @@
-//! The map at the top of a document: the context, and the compacted trees (JSON-LD 1.1 Framing, section 4.1).
+//! The map at the top of a document: the context, and the compacted trees (JSON-LD 1.1 Framing,
+//! section 4.1).
 ghost use Rattle.std.specs.Prelude.{◌≡◌, ◌++◌, ◌∷◌, [], IfOk, map, option_map};
 ghost use Rattle.lf_model.specs.JsonBridge.{json_data, members_data};
 ghost use Rattle.lf_model.specs.JsonData.{array, items_of, members_list, object};
@@ -53,7 +54,10 @@ fn both(alloc: Global, first: Json, second: Json) -> Result<Json, Memory>
 
 // The context beside what stands under its key.
 fn beside(alloc: Global, members: &JsonMap, context: Json) -> Result<Json, Memory>
-    ensures { IfOk result (λ json. json_data json ≡ together (json_data context ∷ under at_context (members_list (members_data members.now)))) }
+    ensures { IfOk result (λ json.
+        json_data json
+        ≡ together
+        (json_data context ∷ under at_context (members_list (members_data members.now)))) }
 {
     let _ = members.as_slice();
     match members.get(context_name()) {
@@ -64,7 +68,9 @@ fn beside(alloc: Global, members: &JsonMap, context: Json) -> Result<Json, Memor
 
 // A map with a context put into it.
 fn with_context(alloc: Global, members: JsonMap, context: Json) -> Result<Json, Memory>
-    ensures { IfOk result (λ json. json_data json ≡ object_of ((at_context, json_data context) ∷ members_list (members_data members))) }
+    ensures { IfOk result (λ json.
+        json_data json
+        ≡ object_of ((at_context, json_data context) ∷ members_list (members_data members))) }
 {
     let mut members = members;
     let _ = members.as_slice();
@@ -97,7 +103,9 @@ fn members_in(alloc: Global, map: Json) -> JsonMap
 
 // The context, where one is shown, and the members of one map.
 fn one_map(alloc: Global, context: Option<Json>, map: Json) -> Result<Json, Memory>
-    ensures { IfOk result (λ json. json_data json ≡ object_of (entry_of (option_map json_data context) ++ entries_in (json_data map))) }
+    ensures { IfOk result (λ json.
+        json_data json
+        ≡ object_of (entry_of (option_map json_data context) ++ entries_in (json_data map))) }
 {
     let members = members_in(alloc, map);
     match context {

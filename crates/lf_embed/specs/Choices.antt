@@ -1,4 +1,5 @@
--- What embedding chooses without asking (JSON-LD 1.1 Framing, section 4.1: the object embed flag and named graphs).
+-- What embedding chooses without asking (JSON-LD 1.1 Framing, section 4.1: the object embed flag
+-- and named graphs).
 use Rattle.std.specs.Prelude.{List, Bool, true, false, not, ◌&&◌, ◌||◌}
 use Rattle.lf_rdf.specs.declared.term.Term.{Term}
 use Rattle.lf_rdf.specs.declared.question.GraphRef.{GraphRef}
@@ -16,4 +17,5 @@ taken_by rule.Matching matched = matched
 
 -- the graph of this name is entered, by whether it names a graph
 abbrev pub enters_by : Bool → GraphRef → Term → Nested → List Place → Bool
-enters_by named graph id frame path = named && is_outside path id && (has_graph (within_of frame) || not (is_merged graph))
+enters_by named graph id frame path =
+    named && is_outside path id && (has_graph (within_of frame) || not (is_merged graph))

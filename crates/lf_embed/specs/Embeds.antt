@@ -1,4 +1,5 @@
--- What a call of embedding gave, as it is learnt by asking, and the terms that its questions are near (JSON-LD 1.1 Framing, section 4.2.3).
+-- What a call of embedding gave, as it is learnt by asking, and the terms that its questions are
+-- near (JSON-LD 1.1 Framing, section 4.2.3).
 use Rattle.std.specs.Prelude.{◌⊎◌, List, ℕ, Bool, ◌&&◌, not, Option, IfSome, IsTrue}
 use Rattle.std.specs.List.{list_all, list_any}
 use Rattle.lf_rdf.specs.declared.term.Term.{Term}
@@ -17,19 +18,28 @@ use Rattle.def_framing.specs.Views.{Views, of_dataset}
 
 -- the predicates of some quads are IRIs, as in every RDF dataset
 abbrev pub has_iri_predicates : List Quad → Bool
-has_iri_predicates dataset = list_all (λ q. is_node q.predicate && not (is_blank q.predicate)) dataset
+has_iri_predicates dataset =
+    list_all (λ q. is_node q.predicate && not (is_blank q.predicate)) dataset
 
 -- a question is near one of these terms, for the properties of some `@reverse` maps
 abbrev pub IsNearBy : List Quad → List (List ℕ) → (Term → Type 0) → Question → Type 0
-IsNearBy dataset reversed Is question = IsTrue (has_iri_predicates dataset) → IsNearOneBy dataset reversed Is question
+IsNearBy dataset reversed Is question =
+    IsTrue (has_iri_predicates dataset) → IsNearOneBy dataset reversed Is question
 
 -- a question is near a term, for a frame
 abbrev pub IsNearTo : List Quad → List (List ℕ) → Term → Question → Type 0
-IsNearTo dataset reversed origin question = IsTrue (has_iri_predicates dataset) → NearQuestion dataset reversed origin question
+IsNearTo dataset reversed origin question =
+    IsTrue (has_iri_predicates dataset) → NearQuestion dataset reversed origin question
 
--- what was made, where something was, is learnt: every dataset gives it that answers the questions alike
-pub record Embeds {A : Type 0} (dataset : List Quad) (before after : Option (List Question)) (first last : ℕ) (reversed : List (List ℕ)) (Is : Term → Type 0) (comes : Views → Result A) (made : Option (Result A)) : Type 0 where
-  pub gained : IfSome made (λ r. Learns (IsNearBy dataset reversed Is) dataset before after first last (λ other. comes (of_dataset other)) r)
+-- what was made, where something was, is learnt: every dataset gives it that answers the questions
+-- alike
+pub record Embeds {A : Type 0} (dataset : List Quad) (before after : Option (List Question))
+    (first last : ℕ) (reversed : List (List ℕ)) (Is : Term → Type 0) (comes : Views → Result A)
+    (made : Option (Result A)) : Type 0 where
+  pub gained :
+      IfSome made (λ r.
+      Learns (IsNearBy dataset reversed Is) dataset before after first last
+      (λ other. comes (of_dataset other)) r)
 
 -- a term is the node, a node that its view refers to, or names the graph
 abbrev pub IsOfNodeOrView : GraphRef → Term → View → Term → Type 0

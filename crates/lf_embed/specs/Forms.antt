@@ -14,7 +14,8 @@ wild_flags flags =
 
 -- the flags that a wildcard takes over from a frame
 abbrev pub heir : Flags → WildFlags
-heir flags = record { embed = flags.embed; explicit = flags.explicit; require_all = flags.require_all }
+heir flags =
+    record { embed = flags.embed; explicit = flags.explicit; require_all = flags.require_all }
 
 -- the nested frame that a sub-frame of a table's frame stands for
 abbrev pub form_of : List FrameNode → Form → Nested

@@ -11,4 +11,5 @@ with_made (Some made) done = done ++ made ∷ []
 
 -- a literal is counted and output as it is
 abbrev pub literal_output : Term → State → Result (Option TreeEntry)
-literal_output term state = then (item state) (λ counted after. gives (Some (literal_entry term)) after)
+literal_output term state =
+    then (item state) (λ counted after. gives (Some (literal_entry term)) after)

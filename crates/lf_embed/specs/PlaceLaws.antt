@@ -32,16 +32,20 @@ graph_itself graph.Merged = refl
 place_told : (one two : Place) → same_place one two ≡ true → one ≡ two
 place_told one two e =
     λ i. record {
-      graph = graph_told one.graph two.graph (and_parts (graph_eq one.graph two.graph) (term_eq one.id two.id) e).0 i;
-      id = (term_decides one.id two.id).0 (and_parts (graph_eq one.graph two.graph) (term_eq one.id two.id) e).1 i;
+      graph = graph_told one.graph two.graph
+          (and_parts (graph_eq one.graph two.graph) (term_eq one.id two.id) e).0 i;
+      id = (term_decides one.id two.id).0
+          (and_parts (graph_eq one.graph two.graph) (term_eq one.id two.id) e).1 i;
     }
 
 place_itself : (one : Place) → same_place one one ≡ true
 place_itself one =
-    and_from (graph_eq one.graph one.graph) (term_eq one.id one.id) (graph_itself one.graph) ((term_decides one.id one.id).1 refl)
+    and_from (graph_eq one.graph one.graph) (term_eq one.id one.id) (graph_itself one.graph)
+    ((term_decides one.id one.id).1 refl)
 
 pub places_decide : (one two : Place) → Decides (same_place one two) (one ≡ two)
-places_decide one two = (place_told one two, λ e. subst (λ p. same_place one p ≡ true) e (place_itself one))
+places_decide one two =
+    (place_told one two, λ e. subst (λ p. same_place one p ≡ true) e (place_itself one))
 
 pub places_equal : IsEquivalence same_place
 places_equal =

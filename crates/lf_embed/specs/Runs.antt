@@ -1,4 +1,5 @@
--- What a call of embedding gave, as the definitions say it (JSON-LD 1.1 Framing, section 4: the framing algorithm).
+-- What a call of embedding gave, as the definitions say it (JSON-LD 1.1 Framing, section 4: the
+-- framing algorithm).
 use Rattle.std.specs.Prelude.{List, ℕ, Option, Some, None, Result as Returned, Ok, Err}
 use Rattle.lf_model.specs.declared.frame.FrameProp.{FrameProp}
 use Rattle.lf_model.specs.TreeData.{TreeEntries}
@@ -16,7 +17,10 @@ run_of shown (Err (stop.Over limit)) after = Some (over limit)
 run_of shown (Err stop.Memory) after = None
 
 -- one more property of a frame takes its default, or is passed over
-abbrev pub default_step : Nested → List (List ℕ × TreeEntries) → Numbered → List (List ℕ × TreeEntries) → FrameProp → State → Result (List (List ℕ × TreeEntries))
+abbrev pub default_step :
+    Nested → List (List ℕ × TreeEntries) → Numbered → List (List ℕ × TreeEntries) → FrameProp →
+    State → Result (List (List ℕ × TreeEntries))
 default_step frame outputs sub done p state =
-    choose (takes_default frame outputs (p.property, sub_frame sub p.frame)) (default_next done (p.property, sub_frame sub p.frame))
+    choose (takes_default frame outputs (p.property, sub_frame sub p.frame))
+    (default_next done (p.property, sub_frame sub p.frame))
     (gives done) state

@@ -1,4 +1,5 @@
-//! The outcomes of many terms by a frame, as for all terms of a dataset: the keys of the framed graph are asked for once.
+//! The outcomes of many terms by a frame, as for all terms of a dataset: the keys of the framed
+//! graph are asked for once.
 ghost use Rattle.std.specs.Prelude.{◌≡◌, Bool, IfOk, map};
 ghost use Rattle.lf_rdf.specs.declared.term.Term.{Term as TheTerm};
 ghost use Rattle.lf_rdf.specs.Equality.{term_eq};
@@ -48,7 +49,8 @@ pub fn framed_keys<N: Nodes, L: Ledger>(
     frame: &Frame,
     steps: &mut Steps<L>,
 ) -> Result<BTreeSet<ById>, Memory>
-    ensures keys { IfOk result (λ known. AreKeys known.keys (keys (N.quads nodes.old) (framed_graph frame.now.top_graph))) }
+    ensures keys { IfOk result (λ known.
+        AreKeys known.keys (keys (N.quads nodes.old) (framed_graph frame.now.top_graph))) }
     ensures quads_stay { N.quads nodes.new ≡ N.quads nodes.old }
 {
     let graph = framed_graph(frame.top_graph);
@@ -68,7 +70,8 @@ pub fn outcome_among<N: Nodes, L: Ledger>(
     steps: &mut Steps<L>,
 ) -> Result<Outcome, Memory>
     requires keys { AreKeys known.now.keys (keys (N.quads nodes.old) (framed_graph frame.now.top_graph)) }
-    ensures outcome { IfOk result (λ made. outcome_data made ≡ outcome (of_dataset (N.quads nodes.old)) frame.now term.now) }
+    ensures outcome { IfOk result (λ made.
+        outcome_data made ≡ outcome (of_dataset (N.quads nodes.old)) frame.now term.now) }
     ensures quads_stay { N.quads nodes.new ≡ N.quads nodes.old }
 {
     let key = is_in(alloc, known, term)?;
@@ -89,7 +92,9 @@ fn outcomes_among<N: Nodes, L: Ledger>(
     steps: &mut Steps<L>,
 ) -> Result<OutcomeList, Memory>
     requires keys { AreKeys known.now.keys (keys (N.quads nodes.old) (framed_graph frame.now.top_graph)) }
-    ensures outcomes { IfOk result (λ made. map outcome_data made ≡ map (outcome (of_dataset (N.quads nodes.old)) frame.now) terms.now) }
+    ensures outcomes { IfOk result (λ made.
+        map outcome_data made
+        ≡ map (outcome (of_dataset (N.quads nodes.old)) frame.now) terms.now) }
     ensures quads_stay { N.quads nodes.new ≡ N.quads nodes.old }
 {
     let mut made = OutcomeList::new(alloc);
@@ -102,8 +107,9 @@ fn outcomes_among<N: Nodes, L: Ledger>(
 
 /// The outcomes of some terms by a frame, in their order (JSON-LD 1.1 Framing, section 4.2.1).
 ///
-/// One call gives the keys of the framed graph, so nothing more is asked of a term that is no key, as the cells of lists: over all
-/// terms of a dataset the questions grow with its nodes and with the trees that are made.
+/// One call gives the keys of the framed graph, so nothing more is asked of a term that is no key,
+/// as the cells of lists: over all terms of a dataset the questions grow with its nodes and with
+/// the trees that are made.
 pub fn outcomes_of<N: Nodes, L: Ledger>(
     alloc: Global,
     nodes: &mut N,
@@ -111,7 +117,9 @@ pub fn outcomes_of<N: Nodes, L: Ledger>(
     terms: &TermList,
     steps: &mut Steps<L>,
 ) -> Result<OutcomeList, Memory>
-    ensures outcomes { IfOk result (λ made. map outcome_data made ≡ map (outcome (of_dataset (N.quads nodes.old)) frame.now) terms.now) }
+    ensures outcomes { IfOk result (λ made.
+        map outcome_data made
+        ≡ map (outcome (of_dataset (N.quads nodes.old)) frame.now) terms.now) }
     ensures quads_stay { N.quads nodes.new ≡ N.quads nodes.old }
 {
     let known = framed_keys(alloc, nodes, frame, steps)?;

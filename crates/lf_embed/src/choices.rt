@@ -1,4 +1,5 @@
-//! What embedding chooses without asking: the types of a node, which references are taken, and whether a graph may be entered.
+//! What embedding chooses without asking: the types of a node, which references are taken, and
+//! whether a graph may be entered.
 ghost use Rattle.std.specs.Prelude.{◌≡◌, ◌&&◌, Bool, IfOk, IfSome, is_some, not};
 ghost use Rattle.std.specs.Option.{option_map};
 ghost use Rattle.lf_rdf.specs.declared.question.GraphRef.{GraphRef};
@@ -42,7 +43,12 @@ pub fn is_left(
     id: &Term,
     walk: &Walk,
 ) -> Result<bool, Memory>
-    ensures { IfOk result (λ left. left ≡ (not free && as_reference (flags_of (form_of frame.now.nodes form)).embed (record { graph = graph.now; id = id.now }) (path_of walk.now) (state_of walk.now))) }
+    ensures { IfOk result (λ left.
+        left
+        ≡ (not free
+        && as_reference (flags_of (form_of frame.now.nodes form)).embed
+        (record { graph = graph.now; id = id.now }) (path_of walk.now)
+        (state_of walk.now))) }
 {
     if free {
         Ok(false)
@@ -72,7 +78,8 @@ pub fn types_for(
     form: Form,
     types: &TermList,
 ) -> Result<TermList, Memory>
-    ensures { IfOk result (λ given. given ≡ types_by (flags_of (form_of frame.now.nodes form)).types types.now) }
+    ensures { IfOk result
+        (λ given. given ≡ types_by (flags_of (form_of frame.now.nodes form)).types types.now) }
 {
     match form {
         Form::Absent => types.copy(alloc),
@@ -101,7 +108,9 @@ fn given_types(alloc: Global, test: &TypeTest, types: &TermList) -> Result<TermL
 
 /// Which references a sub-frame takes (JSON-LD 1.1 Framing, section 4.2.2).
 pub fn reference_rule(frame: &Frame, form: Form) -> ReferenceRule
-    ensures { (views : Views) (graph : GraphRef) (id : Term) → accepts views graph (form_of frame.now.nodes form) (reference id) ≡ taken_by result (matches views graph (form_of frame.now.nodes form) id) }
+    ensures { (views : Views) (graph : GraphRef) (id : Term) →
+        accepts views graph (form_of frame.now.nodes form) (reference id)
+        ≡ taken_by result (matches views graph (form_of frame.now.nodes form) id) }
 {
     match form {
         Form::Absent => ReferenceRule::Never,
@@ -118,10 +127,14 @@ pub fn reference_rule(frame: &Frame, form: Form) -> ReferenceRule
     }
 }
 
-/// The sub-frame for the nodes of the graph that a node names, unless that graph isn't entered whatever it names.
+/// The sub-frame for the nodes of the graph that a node names, unless that graph isn't entered
+/// whatever it names.
 pub fn entering(graph: &GraphRef, id: &Term, frame: &Frame, form: Form, walk: &Walk) -> Option<Form>
-    ensures sub { IfSome result (λ sub. form_of frame.now.nodes sub ≡ graph_frame (within_of (form_of frame.now.nodes form))) }
-    ensures enters { (named : Bool) → enters_by named graph.now id.now (form_of frame.now.nodes form) (path_of walk.now) ≡ (named && is_some result) }
+    ensures sub { IfSome result (λ sub.
+        form_of frame.now.nodes sub ≡ graph_frame (within_of (form_of frame.now.nodes form))) }
+    ensures enters { (named : Bool) →
+        enters_by named graph.now id.now (form_of frame.now.nodes form) (path_of walk.now)
+        ≡ (named && is_some result) }
 {
     if !walk.is_outside(id) {
         return None;
@@ -148,7 +161,8 @@ fn merged(graph: &GraphRef) -> bool
     }
 }
 
-/// The framed graph: the default graph where the frame has `@graph` at its top, else all graphs merged.
+/// The framed graph: the default graph where the frame has `@graph` at its top, else all graphs
+/// merged.
 pub fn framed_graph(top_graph: bool) -> GraphRef
     ensures { result ≡ framed_graph top_graph }
 {

@@ -1,4 +1,5 @@
-//! The defaults of a node: the properties of the frame of which no value was output. Embedding calls it; it asks nothing.
+//! The defaults of a node: the properties of the frame of which no value was output. Embedding
+//! calls it; it asks nothing.
 ghost use Rattle.std.specs.Prelude.{◌≡◌, ◌≤◌, [], IfSome, OnOk, filter, map};
 ghost use Rattle.std.specs.List.{list_any};
 ghost use Rattle.lf_model.specs.TreeBridge.{entry_data, property_data};
@@ -18,7 +19,8 @@ use lf_base::{Same, Text, TryCopy};
 use lf_model::{Frame, FrameProp, FramePropList, TreeProp, TreePropList, TreeValueList};
 use std::alloc::Global;
 
-/// Each property of the frame that takes its default, in order (JSON-LD 1.1 Framing, section 4.2.3).
+/// Each property of the frame that takes its default, in order (JSON-LD 1.1 Framing, section
+/// 4.2.3).
 pub fn default_part(
     alloc: Global,
     frame: &Frame,
@@ -26,7 +28,11 @@ pub fn default_part(
     values: &TreePropList,
     walk: &mut Walk,
 ) -> Result<TreePropList, Stop>
-    ensures run { IfSome (run_of (map property_data) result (state_of walk.new)) (λ r. r ≡ default_part (form_of frame.now.nodes form) (map property_data values.now) (state_of walk.old)) }
+    ensures run { IfSome (run_of (map property_data) result (state_of walk.new))
+        (λ r.
+        r
+        ≡ default_part (form_of frame.now.nodes form) (map property_data values.now)
+        (state_of walk.old)) }
     ensures path { path_of walk.new ≡ path_of walk.old }
     ensures grows { OnOk result ((state_of walk.old).count ≤ (state_of walk.new).count) }
 {
@@ -40,7 +46,11 @@ fn form_defaults(
     values: &TreePropList,
     walk: &mut Walk,
 ) -> Result<TreePropList, Stop>
-    ensures run { IfSome (run_of (map property_data) result (state_of walk.new)) (λ r. r ≡ default_part (form_of frame.now.nodes form) (map property_data values.now) (state_of walk.old)) }
+    ensures run { IfSome (run_of (map property_data) result (state_of walk.new))
+        (λ r.
+        r
+        ≡ default_part (form_of frame.now.nodes form) (map property_data values.now)
+        (state_of walk.old)) }
     ensures path { path_of walk.new ≡ path_of walk.old }
 {
     match form {
@@ -62,7 +72,13 @@ fn default_props(
     values: &TreePropList,
     walk: &mut Walk,
 ) -> Result<TreePropList, Stop>
-    ensures run { IfSome (run_of (map property_data) result (state_of walk.new)) (λ r. r ≡ through default_next [] (filter (takes_default (form_of frame.now.nodes form) (map property_data values.now)) (props_list (build_props (above at (nested frame.now.nodes)) props.now))) (state_of walk.old)) }
+    ensures run { IfSome (run_of (map property_data) result (state_of walk.new))
+        (λ r.
+        r
+        ≡ through default_next [] (filter
+        (takes_default (form_of frame.now.nodes form) (map property_data values.now))
+        (props_list (build_props (above at (nested frame.now.nodes)) props.now)))
+        (state_of walk.old)) }
     ensures path { path_of walk.new ≡ path_of walk.old }
 {
     let mut done = TreePropList::new(alloc);
@@ -85,7 +101,12 @@ fn next_default(
     done: &mut TreePropList,
     walk: &mut Walk,
 ) -> Result<(), Stop>
-    ensures run { IfSome (run_of (λ u. map property_data done.new) result (state_of walk.new)) (λ r. r ≡ default_step (form_of frame.now.nodes form) (map property_data values.now) (above at (nested frame.now.nodes)) (map property_data done.old) prop.now (state_of walk.old)) }
+    ensures run { IfSome (run_of (λ u. map property_data done.new) result (state_of walk.new))
+        (λ r.
+        r
+        ≡ default_step (form_of frame.now.nodes form) (map property_data values.now)
+        (above at (nested frame.now.nodes)) (map property_data done.old) prop.now
+        (state_of walk.old)) }
     ensures path { path_of walk.new ≡ path_of walk.old }
 {
     let sub = numbered(frame, at, prop.frame);
@@ -105,7 +126,11 @@ fn add_default(
     done: &mut TreePropList,
     walk: &mut Walk,
 ) -> Result<(), Stop>
-    ensures run { IfSome (run_of (λ u. map property_data done.new) result (state_of walk.new)) (λ r. r ≡ default_next (map property_data done.old) (property.now, form_of frame.now.nodes sub) (state_of walk.old)) }
+    ensures run { IfSome (run_of (λ u. map property_data done.new) result (state_of walk.new))
+        (λ r.
+        r
+        ≡ default_next (map property_data done.old)
+        (property.now, form_of frame.now.nodes sub) (state_of walk.old)) }
     ensures path { path_of walk.new ≡ path_of walk.old }
 {
     match form_fallback(alloc, frame, sub, walk) {
@@ -126,7 +151,10 @@ fn form_fallback(
     sub: Form,
     walk: &mut Walk,
 ) -> Result<TreeValueList, Stop>
-    ensures run { IfSome (run_of (map entry_data) result (state_of walk.new)) (λ r. r ≡ default_entries (flags_of (form_of frame.now.nodes sub)).fallback (state_of walk.old)) }
+    ensures run { IfSome (run_of (map entry_data) result (state_of walk.new)) (λ r.
+        r
+        ≡ default_entries (flags_of (form_of frame.now.nodes sub)).fallback
+        (state_of walk.old)) }
     ensures path { path_of walk.new ≡ path_of walk.old }
 {
     match sub {
@@ -141,7 +169,9 @@ fn form_fallback(
 
 // A property takes its default where no value of it was output and it isn't omitted.
 fn takes(frame: &Frame, form: Form, sub: Form, property: &Text, values: &TreePropList) -> bool
-    ensures { result ≡ takes_default (form_of frame.now.nodes form) (map property_data values.now) (property.now, form_of frame.now.nodes sub) }
+    ensures { result
+        ≡ takes_default (form_of frame.now.nodes form) (map property_data values.now)
+        (property.now, form_of frame.now.nodes sub) }
 {
     !is_output(values, property) && !omits(frame, form, sub)
 }

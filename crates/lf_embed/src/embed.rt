@@ -1,5 +1,6 @@
-//! Embedding of a node by a frame, over any `Nodes` (JSON-LD 1.1 Framing, section 4.2.3). `tree` calls it. The functions call each
-//! other on what a node holds; each node and each list is counted before that, so the count of items bounds the recursion.
+//! Embedding of a node by a frame, over any `Nodes` (JSON-LD 1.1 Framing, section 4.2.3). `tree`
+//! calls it. The functions call each other on what a node holds; each node and each list is counted
+//! before that, so the count of items bounds the recursion.
 ghost use Rattle.std.specs.Prelude.{◌≡◌, ◌≤◌, [], ◌∷◌, OnOk, false, map};
 ghost use Rattle.std.specs.Option.{option_map};
 ghost use Rattle.lf_model.specs.ValueBridge.{value_data};
@@ -48,7 +49,11 @@ fn embed<N: Nodes, L: Ledger>(
     walk: &mut Walk,
     steps: &mut Steps<L>,
 ) -> Result<Tree, Stop>
-    ensures run { Embeds (N.quads nodes.old) (N.told nodes.old) (N.told nodes.new) steps.old steps.new (reversed_in (form_of frame.now.nodes form)) (IsOfNode graph.now id.now) (λ views. embed views room graph.now id.now (form_of frame.now.nodes form) false (path_of walk.old) (state_of walk.old)) (run_of tree_data result (state_of walk.new)) }
+    ensures run { Embeds (N.quads nodes.old) (N.told nodes.old) (N.told nodes.new) steps.old steps.new
+        (reversed_in (form_of frame.now.nodes form)) (IsOfNode graph.now id.now)
+        (λ views.
+        embed views room graph.now id.now (form_of frame.now.nodes form) false
+        (path_of walk.old) (state_of walk.old)) (run_of tree_data result (state_of walk.new)) }
     ensures quads_stay { N.quads nodes.new ≡ N.quads nodes.old }
     ensures path_stays { OnOk result (path_of walk.new ≡ path_of walk.old) }
     ensures grows { OnOk result ((state_of walk.old).count ≤ (state_of walk.new).count) }
@@ -78,7 +83,12 @@ pub fn embed_viewed<N: Nodes, L: Ledger>(
     walk: &mut Walk,
     steps: &mut Steps<L>,
 ) -> Result<Tree, Stop>
-    ensures run { Embeds (N.quads nodes.old) (N.told nodes.old) (N.told nodes.new) steps.old steps.new (reversed_in (form_of frame.now.nodes form)) (IsOfNodeOrView graph.now id.now (view_data view.now)) (λ views. embed_viewed views room graph.now id.now (form_of frame.now.nodes form) free (view_data view.now) (path_of walk.old) (state_of walk.old)) (run_of tree_data result (state_of walk.new)) }
+    ensures run { Embeds (N.quads nodes.old) (N.told nodes.old) (N.told nodes.new) steps.old steps.new
+        (reversed_in (form_of frame.now.nodes form))
+        (IsOfNodeOrView graph.now id.now (view_data view.now)) (λ views.
+        embed_viewed views room graph.now id.now (form_of frame.now.nodes form) free
+        (view_data view.now) (path_of walk.old) (state_of walk.old))
+        (run_of tree_data result (state_of walk.new)) }
     ensures quads_stay { N.quads nodes.new ≡ N.quads nodes.old }
     ensures path_stays { OnOk result (path_of walk.new ≡ path_of walk.old) }
     ensures grows { OnOk result ((state_of walk.old).count ≤ (state_of walk.new).count) }
@@ -91,7 +101,8 @@ pub fn embed_viewed<N: Nodes, L: Ledger>(
     )
 }
 
-// The node is counted and joins the path and the embedded nodes; it leaves the path with its contents.
+// The node is counted and joins the path and the embedded nodes; it leaves the path with its
+// contents.
 #[cycle(embedding)]
 fn descend<N: Nodes, L: Ledger>(
     alloc: Global,
@@ -105,7 +116,12 @@ fn descend<N: Nodes, L: Ledger>(
     walk: &mut Walk,
     steps: &mut Steps<L>,
 ) -> Result<Tree, Stop>
-    ensures run { Embeds (N.quads nodes.old) (N.told nodes.old) (N.told nodes.new) steps.old steps.new (reversed_in (form_of frame.now.nodes form)) (IsOfNodeOrView graph.now id.now (view_data view.now)) (λ views. descend views room graph.now id.now (form_of frame.now.nodes form) (view_data view.now) (path_of walk.old) (state_of walk.old)) (run_of tree_data result (state_of walk.new)) }
+    ensures run { Embeds (N.quads nodes.old) (N.told nodes.old) (N.told nodes.new) steps.old steps.new
+        (reversed_in (form_of frame.now.nodes form))
+        (IsOfNodeOrView graph.now id.now (view_data view.now)) (λ views.
+        descend views room graph.now id.now (form_of frame.now.nodes form)
+        (view_data view.now) (path_of walk.old) (state_of walk.old))
+        (run_of tree_data result (state_of walk.new)) }
     ensures quads_stay { N.quads nodes.new ≡ N.quads nodes.old }
     ensures path_stays { OnOk result (path_of walk.new ≡ path_of walk.old) }
     ensures grows { OnOk result ((state_of walk.old).count ≤ (state_of walk.new).count) }
@@ -152,7 +168,12 @@ fn contents<N: Nodes, L: Ledger>(
     walk: &mut Walk,
     steps: &mut Steps<L>,
 ) -> Result<Tree, Stop>
-    ensures run { Embeds (N.quads nodes.old) (N.told nodes.old) (N.told nodes.new) steps.old steps.new (reversed_in (form_of frame.now.nodes form)) (IsOfNodeOrView graph.now id.now (view_data view.now)) (λ views. contents views (embed views room) graph.now id.now (form_of frame.now.nodes form) (view_data view.now) (path_of walk.old) (state_of walk.old)) (run_of tree_data result (state_of walk.new)) }
+    ensures run { Embeds (N.quads nodes.old) (N.told nodes.old) (N.told nodes.new) steps.old steps.new
+        (reversed_in (form_of frame.now.nodes form))
+        (IsOfNodeOrView graph.now id.now (view_data view.now)) (λ views.
+        contents views (embed views room) graph.now id.now (form_of frame.now.nodes form)
+        (view_data view.now) (path_of walk.old) (state_of walk.old))
+        (run_of tree_data result (state_of walk.new)) }
     ensures quads_stay { N.quads nodes.new ≡ N.quads nodes.old }
     ensures path_stays { OnOk result (path_of walk.new ≡ path_of walk.old) }
     ensures grows { OnOk result ((state_of walk.old).count ≤ (state_of walk.new).count) }
@@ -204,7 +225,12 @@ fn graph_part<N: Nodes, L: Ledger>(
     walk: &mut Walk,
     steps: &mut Steps<L>,
 ) -> Result<TreeList, Stop>
-    ensures run { Embeds (N.quads nodes.old) (N.told nodes.old) (N.told nodes.new) steps.old steps.new (reversed_in (form_of frame.now.nodes form)) (IsOfNode graph.now id.now) (λ views. graph_part views (embed views room) graph.now id.now (form_of frame.now.nodes form) (path_of walk.old) (state_of walk.old)) (run_of (map tree_data) result (state_of walk.new)) }
+    ensures run { Embeds (N.quads nodes.old) (N.told nodes.old) (N.told nodes.new) steps.old steps.new
+        (reversed_in (form_of frame.now.nodes form)) (IsOfNode graph.now id.now)
+        (λ views.
+        graph_part views (embed views room) graph.now id.now (form_of frame.now.nodes form)
+        (path_of walk.old) (state_of walk.old))
+        (run_of (map tree_data) result (state_of walk.new)) }
     ensures quads_stay { N.quads nodes.new ≡ N.quads nodes.old }
     ensures path_stays { OnOk result (path_of walk.new ≡ path_of walk.old) }
     ensures grows { OnOk result ((state_of walk.old).count ≤ (state_of walk.new).count) }
@@ -233,7 +259,12 @@ fn named_part<N: Nodes, L: Ledger>(
     walk: &mut Walk,
     steps: &mut Steps<L>,
 ) -> Result<TreeList, Stop>
-    ensures run { Embeds (N.quads nodes.old) (N.told nodes.old) (N.told nodes.new) steps.old steps.new (reversed_in (form_of frame.now.nodes form)) (IsNamed name.now) (λ views. named_part views (embed views room) name.now (form_of frame.now.nodes form) (path_of walk.old) (state_of walk.old)) (run_of (map tree_data) result (state_of walk.new)) }
+    ensures run { Embeds (N.quads nodes.old) (N.told nodes.old) (N.told nodes.new) steps.old steps.new
+        (reversed_in (form_of frame.now.nodes form)) (IsNamed name.now)
+        (λ views.
+        named_part views (embed views room) name.now (form_of frame.now.nodes form)
+        (path_of walk.old) (state_of walk.old))
+        (run_of (map tree_data) result (state_of walk.new)) }
     ensures quads_stay { N.quads nodes.new ≡ N.quads nodes.old }
     ensures path_stays { OnOk result (path_of walk.new ≡ path_of walk.old) }
     ensures grows { OnOk result ((state_of walk.old).count ≤ (state_of walk.new).count) }
@@ -259,7 +290,12 @@ fn keys_part<N: Nodes, L: Ledger>(
     walk: &mut Walk,
     steps: &mut Steps<L>,
 ) -> Result<TreeList, Stop>
-    ensures run { Embeds (N.quads nodes.old) (N.told nodes.old) (N.told nodes.new) steps.old steps.new (reversed_in (form_of frame.now.nodes form)) (IsOfKeys graph.now keys.now) (λ views. keys_part views (embed views room) graph.now (form_of frame.now.nodes form) free (path_of walk.old) keys.now (state_of walk.old)) (run_of (map tree_data) result (state_of walk.new)) }
+    ensures run { Embeds (N.quads nodes.old) (N.told nodes.old) (N.told nodes.new) steps.old steps.new
+        (reversed_in (form_of frame.now.nodes form)) (IsOfKeys graph.now keys.now)
+        (λ views.
+        keys_part views (embed views room) graph.now (form_of frame.now.nodes form) free
+        (path_of walk.old) keys.now (state_of walk.old))
+        (run_of (map tree_data) result (state_of walk.new)) }
     ensures quads_stay { N.quads nodes.new ≡ N.quads nodes.old }
     ensures path_stays { OnOk result (path_of walk.new ≡ path_of walk.old) }
     ensures grows { OnOk result ((state_of walk.old).count ≤ (state_of walk.new).count) }
@@ -290,7 +326,12 @@ fn matched<N: Nodes, L: Ledger>(
     walk: &mut Walk,
     steps: &mut Steps<L>,
 ) -> Result<Option<Tree>, Stop>
-    ensures run { Embeds (N.quads nodes.old) (N.told nodes.old) (N.told nodes.new) steps.old steps.new (reversed_in (form_of frame.now.nodes form)) (IsOfNode graph.now id.now) (λ views. matched views (embed views room) graph.now (form_of frame.now.nodes form) free (path_of walk.old) id.now (state_of walk.old)) (run_of (option_map tree_data) result (state_of walk.new)) }
+    ensures run { Embeds (N.quads nodes.old) (N.told nodes.old) (N.told nodes.new) steps.old steps.new
+        (reversed_in (form_of frame.now.nodes form)) (IsOfNode graph.now id.now)
+        (λ views.
+        matched views (embed views room) graph.now (form_of frame.now.nodes form) free
+        (path_of walk.old) id.now (state_of walk.old))
+        (run_of (option_map tree_data) result (state_of walk.new)) }
     ensures quads_stay { N.quads nodes.new ≡ N.quads nodes.old }
     ensures path_stays { OnOk result (path_of walk.new ≡ path_of walk.old) }
     ensures grows { OnOk result ((state_of walk.old).count ≤ (state_of walk.new).count) }
@@ -325,7 +366,12 @@ fn value_part<N: Nodes, L: Ledger>(
     walk: &mut Walk,
     steps: &mut Steps<L>,
 ) -> Result<TreePropList, Stop>
-    ensures run { Embeds (N.quads nodes.old) (N.told nodes.old) (N.told nodes.new) steps.old steps.new (reversed_in (form_of frame.now.nodes form)) (IsOfProps graph.now (map view_property props.now)) (λ views. value_part views (embed views room) graph.now (form_of frame.now.nodes form) (path_of walk.old) (map view_property props.now) (state_of walk.old)) (run_of (map property_data) result (state_of walk.new)) }
+    ensures run { Embeds (N.quads nodes.old) (N.told nodes.old) (N.told nodes.new) steps.old steps.new
+        (reversed_in (form_of frame.now.nodes form))
+        (IsOfProps graph.now (map view_property props.now)) (λ views.
+        value_part views (embed views room) graph.now (form_of frame.now.nodes form)
+        (path_of walk.old) (map view_property props.now) (state_of walk.old))
+        (run_of (map property_data) result (state_of walk.new)) }
     ensures quads_stay { N.quads nodes.new ≡ N.quads nodes.old }
     ensures path_stays { OnOk result (path_of walk.new ≡ path_of walk.old) }
     ensures grows { OnOk result ((state_of walk.old).count ≤ (state_of walk.new).count) }
@@ -353,7 +399,12 @@ fn property_values<N: Nodes, L: Ledger>(
     walk: &mut Walk,
     steps: &mut Steps<L>,
 ) -> Result<TreeValueList, Stop>
-    ensures run { Embeds (N.quads nodes.old) (N.told nodes.old) (N.told nodes.new) steps.old steps.new (reversed_in (form_of frame.now.nodes form)) (IsOfValues graph.now (map value_data held.now.values)) (λ views. property_values views (embed views room) graph.now (form_of frame.now.nodes form) (path_of walk.old) (view_property held.now) (state_of walk.old)) (run_of (map entry_data) result (state_of walk.new)) }
+    ensures run { Embeds (N.quads nodes.old) (N.told nodes.old) (N.told nodes.new) steps.old steps.new
+        (reversed_in (form_of frame.now.nodes form))
+        (IsOfValues graph.now (map value_data held.now.values)) (λ views.
+        property_values views (embed views room) graph.now (form_of frame.now.nodes form)
+        (path_of walk.old) (view_property held.now) (state_of walk.old))
+        (run_of (map entry_data) result (state_of walk.new)) }
     ensures quads_stay { N.quads nodes.new ≡ N.quads nodes.old }
     ensures path_stays { OnOk result (path_of walk.new ≡ path_of walk.old) }
     ensures grows { OnOk result ((state_of walk.old).count ≤ (state_of walk.new).count) }
@@ -389,7 +440,12 @@ fn emit_all<N: Nodes, L: Ledger>(
     walk: &mut Walk,
     steps: &mut Steps<L>,
 ) -> Result<TreeValueList, Stop>
-    ensures run { Embeds (N.quads nodes.old) (N.told nodes.old) (N.told nodes.new) steps.old steps.new (reversed_in (form_of frame.now.nodes form)) (IsOfValues graph.now (map value_data values.now)) (λ views. emit_all views (embed views room) graph.now (path_of walk.old) (form_of frame.now.nodes form) [] (values_of (map value_data values.now)) (state_of walk.old)) (run_of (map entry_data) result (state_of walk.new)) }
+    ensures run { Embeds (N.quads nodes.old) (N.told nodes.old) (N.told nodes.new) steps.old steps.new
+        (reversed_in (form_of frame.now.nodes form))
+        (IsOfValues graph.now (map value_data values.now)) (λ views.
+        emit_all views (embed views room) graph.now (path_of walk.old)
+        (form_of frame.now.nodes form) [] (values_of (map value_data values.now))
+        (state_of walk.old)) (run_of (map entry_data) result (state_of walk.new)) }
     ensures quads_stay { N.quads nodes.new ≡ N.quads nodes.old }
     ensures path_stays { OnOk result (path_of walk.new ≡ path_of walk.old) }
     ensures grows { OnOk result ((state_of walk.old).count ≤ (state_of walk.new).count) }
@@ -417,7 +473,12 @@ fn emit<N: Nodes, L: Ledger>(
     walk: &mut Walk,
     steps: &mut Steps<L>,
 ) -> Result<Option<TreeValue>, Stop>
-    ensures run { Embeds (N.quads nodes.old) (N.told nodes.old) (N.told nodes.new) steps.old steps.new (reversed_in (form_of frame.now.nodes form)) (IsOfValue graph.now (value_data value.now)) (λ views. emitted views (embed views room) graph.now (path_of walk.old) (form_of frame.now.nodes form) (value_data value.now) (state_of walk.old)) (run_of (option_map entry_data) result (state_of walk.new)) }
+    ensures run { Embeds (N.quads nodes.old) (N.told nodes.old) (N.told nodes.new) steps.old steps.new
+        (reversed_in (form_of frame.now.nodes form))
+        (IsOfValue graph.now (value_data value.now)) (λ views.
+        emitted views (embed views room) graph.now (path_of walk.old)
+        (form_of frame.now.nodes form) (value_data value.now) (state_of walk.old))
+        (run_of (option_map entry_data) result (state_of walk.new)) }
     ensures quads_stay { N.quads nodes.new ≡ N.quads nodes.old }
     ensures path_stays { OnOk result (path_of walk.new ≡ path_of walk.old) }
     ensures grows { OnOk result ((state_of walk.old).count ≤ (state_of walk.new).count) }
@@ -454,7 +515,12 @@ fn emit_list<N: Nodes, L: Ledger>(
     walk: &mut Walk,
     steps: &mut Steps<L>,
 ) -> Result<Option<TreeValue>, Stop>
-    ensures run { Embeds (N.quads nodes.old) (N.told nodes.old) (N.told nodes.new) steps.old steps.new (reversed_in (form_of frame.now.nodes form)) (IsOfValues graph.now (map value_data items.now)) (λ views. list_output views (embed views room) graph.now (path_of walk.old) (form_of frame.now.nodes form) (map value_data items.now) (state_of walk.old)) (run_of (option_map entry_data) result (state_of walk.new)) }
+    ensures run { Embeds (N.quads nodes.old) (N.told nodes.old) (N.told nodes.new) steps.old steps.new
+        (reversed_in (form_of frame.now.nodes form))
+        (IsOfValues graph.now (map value_data items.now)) (λ views.
+        list_output views (embed views room) graph.now (path_of walk.old)
+        (form_of frame.now.nodes form) (map value_data items.now) (state_of walk.old))
+        (run_of (option_map entry_data) result (state_of walk.new)) }
     ensures quads_stay { N.quads nodes.new ≡ N.quads nodes.old }
     ensures path_stays { OnOk result (path_of walk.new ≡ path_of walk.old) }
     ensures grows { OnOk result ((state_of walk.old).count ≤ (state_of walk.new).count) }
@@ -480,7 +546,8 @@ fn emit_list<N: Nodes, L: Ledger>(
     }
 }
 
-// A wildcard takes each reference, a node frame those to nodes that match it, another sub-frame none.
+// A wildcard takes each reference, a node frame those to nodes that match it, another sub-frame
+// none.
 #[cycle(embedding)]
 fn emit_reference<N: Nodes, L: Ledger>(
     alloc: Global,
@@ -493,7 +560,12 @@ fn emit_reference<N: Nodes, L: Ledger>(
     walk: &mut Walk,
     steps: &mut Steps<L>,
 ) -> Result<Option<TreeValue>, Stop>
-    ensures run { Embeds (N.quads nodes.old) (N.told nodes.old) (N.told nodes.new) steps.old steps.new (reversed_in (form_of frame.now.nodes form)) (IsOfNode graph.now id.now) (λ views. emitted views (embed views room) graph.now (path_of walk.old) (form_of frame.now.nodes form) (reference id.now) (state_of walk.old)) (run_of (option_map entry_data) result (state_of walk.new)) }
+    ensures run { Embeds (N.quads nodes.old) (N.told nodes.old) (N.told nodes.new) steps.old steps.new
+        (reversed_in (form_of frame.now.nodes form)) (IsOfNode graph.now id.now)
+        (λ views.
+        emitted views (embed views room) graph.now (path_of walk.old)
+        (form_of frame.now.nodes form) (reference id.now) (state_of walk.old))
+        (run_of (option_map entry_data) result (state_of walk.new)) }
     ensures quads_stay { N.quads nodes.new ≡ N.quads nodes.old }
     ensures path_stays { OnOk result (path_of walk.new ≡ path_of walk.old) }
     ensures grows { OnOk result ((state_of walk.old).count ≤ (state_of walk.new).count) }
@@ -530,7 +602,12 @@ fn reverse_part<N: Nodes, L: Ledger>(
     walk: &mut Walk,
     steps: &mut Steps<L>,
 ) -> Result<TreeReverseList, Stop>
-    ensures run { Embeds (N.quads nodes.old) (N.told nodes.old) (N.told nodes.new) steps.old steps.new (reversed_in (form_of frame.now.nodes form)) (IsOfNode graph.now id.now) (λ views. reverse_part views (embed views room) graph.now id.now (form_of frame.now.nodes form) (path_of walk.old) (state_of walk.old)) (run_of (map reverse_data) result (state_of walk.new)) }
+    ensures run { Embeds (N.quads nodes.old) (N.told nodes.old) (N.told nodes.new) steps.old steps.new
+        (reversed_in (form_of frame.now.nodes form)) (IsOfNode graph.now id.now)
+        (λ views.
+        reverse_part views (embed views room) graph.now id.now (form_of frame.now.nodes form)
+        (path_of walk.old) (state_of walk.old))
+        (run_of (map reverse_data) result (state_of walk.new)) }
     ensures quads_stay { N.quads nodes.new ≡ N.quads nodes.old }
     ensures path_stays { OnOk result (path_of walk.new ≡ path_of walk.old) }
     ensures grows { OnOk result ((state_of walk.old).count ≤ (state_of walk.new).count) }
@@ -570,7 +647,12 @@ fn reverse_props<N: Nodes, L: Ledger>(
     walk: &mut Walk,
     steps: &mut Steps<L>,
 ) -> Result<TreeReverseList, Stop>
-    ensures run { Embeds (N.quads nodes.old) (N.told nodes.old) (N.told nodes.new) steps.old steps.new (in_reverses (build_reverses (above at (nested frame.now.nodes)) props.now)) (IsOfNode graph.now id.now) (λ views. reverses_part views (embed views room) graph.now id.now (path_of walk.old) (above at (nested frame.now.nodes)) props.now (state_of walk.old)) (run_of (map reverse_data) result (state_of walk.new)) }
+    ensures run { Embeds (N.quads nodes.old) (N.told nodes.old) (N.told nodes.new) steps.old steps.new
+        (in_reverses (build_reverses (above at (nested frame.now.nodes)) props.now))
+        (IsOfNode graph.now id.now) (λ views.
+        reverses_part views (embed views room) graph.now id.now (path_of walk.old)
+        (above at (nested frame.now.nodes)) props.now (state_of walk.old))
+        (run_of (map reverse_data) result (state_of walk.new)) }
     ensures quads_stay { N.quads nodes.new ≡ N.quads nodes.old }
     ensures path_stays { OnOk result (path_of walk.new ≡ path_of walk.old) }
     ensures grows { OnOk result ((state_of walk.old).count ≤ (state_of walk.new).count) }
@@ -599,7 +681,12 @@ fn arriving<N: Nodes, L: Ledger>(
     walk: &mut Walk,
     steps: &mut Steps<L>,
 ) -> Result<TreeList, Stop>
-    ensures run { Embeds (N.quads nodes.old) (N.told nodes.old) (N.told nodes.new) steps.old steps.new (held.now.property ∷ reversed_in (above at (nested frame.now.nodes) held.now.frame)) (IsOfNode graph.now id.now) (λ views. arriving_part views (embed views room) graph.now id.now (path_of walk.old) (held.now.property, above at (nested frame.now.nodes) held.now.frame) (state_of walk.old)) (run_of (map tree_data) result (state_of walk.new)) }
+    ensures run { Embeds (N.quads nodes.old) (N.told nodes.old) (N.told nodes.new) steps.old steps.new
+        (held.now.property ∷ reversed_in (above at (nested frame.now.nodes) held.now.frame))
+        (IsOfNode graph.now id.now) (λ views.
+        arriving_part views (embed views room) graph.now id.now (path_of walk.old)
+        (held.now.property, above at (nested frame.now.nodes) held.now.frame)
+        (state_of walk.old)) (run_of (map tree_data) result (state_of walk.new)) }
     ensures quads_stay { N.quads nodes.new ≡ N.quads nodes.old }
     ensures path_stays { OnOk result (path_of walk.new ≡ path_of walk.old) }
     ensures grows { OnOk result ((state_of walk.old).count ≤ (state_of walk.new).count) }

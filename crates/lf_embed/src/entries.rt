@@ -20,9 +20,11 @@ use lf_model::{
 use lf_rdf::{Term, TermList};
 use std::alloc::Global;
 
-/// A node is output as a reference: its id alone (JSON-LD 1.1 Framing, section 4.1: the object embed flag).
+/// A node is output as a reference: its id alone (JSON-LD 1.1 Framing, section 4.1: the object
+/// embed flag).
 pub fn refer(alloc: Global, id: &Term, walk: &mut Walk) -> Result<Tree, Stop>
-    ensures run { IfSome (run_of tree_data result (state_of walk.new)) (λ r. r ≡ refer id.now (state_of walk.old)) }
+    ensures run { IfSome (run_of tree_data result (state_of walk.new))
+        (λ r. r ≡ refer id.now (state_of walk.old)) }
     ensures path { path_of walk.new ≡ path_of walk.old }
     ensures grows { OnOk result ((state_of walk.old).count ≤ (state_of walk.new).count) }
 {
@@ -40,7 +42,8 @@ pub fn emit_literal(
     literal: &Term,
     walk: &mut Walk,
 ) -> Result<Option<TreeValue>, Stop>
-    ensures run { IfSome (run_of (option_map entry_data) result (state_of walk.new)) (λ r. r ≡ literal_output literal.now (state_of walk.old)) }
+    ensures run { IfSome (run_of (option_map entry_data) result (state_of walk.new))
+        (λ r. r ≡ literal_output literal.now (state_of walk.old)) }
     ensures path { path_of walk.new ≡ path_of walk.old }
     ensures grows { OnOk result ((state_of walk.old).count ≤ (state_of walk.new).count) }
 {
@@ -51,7 +54,8 @@ pub fn emit_literal(
 }
 
 fn reference(alloc: Global, id: &Term) -> Result<Tree, Memory>
-    ensures { IfOk result (λ made. tree_data made ≡ tree (Some id.now) [] no_nodes no_properties no_reverses) }
+    ensures { IfOk result
+        (λ made. tree_data made ≡ tree (Some id.now) [] no_nodes no_properties no_reverses) }
 {
     Ok(Tree {
         id: Some(id.copy(alloc)?),
@@ -62,14 +66,15 @@ fn reference(alloc: Global, id: &Term) -> Result<Tree, Memory>
     })
 }
 
-/// The default values of a property: null without `@default`, and an empty array for an empty one (JSON-LD 1.1 Framing, section
-/// 4.1: the default keyword).
+/// The default values of a property: null without `@default`, and an empty array for an empty one
+/// (JSON-LD 1.1 Framing, section 4.1: the default keyword).
 pub fn fallback_entries(
     alloc: Global,
     fallback: &Option<DefaultList>,
     walk: &mut Walk,
 ) -> Result<TreeValueList, Stop>
-    ensures run { IfSome (run_of (map entry_data) result (state_of walk.new)) (λ r. r ≡ default_entries fallback.now (state_of walk.old)) }
+    ensures run { IfSome (run_of (map entry_data) result (state_of walk.new))
+        (λ r. r ≡ default_entries fallback.now (state_of walk.old)) }
     ensures path { path_of walk.new ≡ path_of walk.old }
 {
     match fallback {
@@ -83,7 +88,8 @@ pub fn fallback_entries(
 
 /// The null of a property without `@default`.
 pub fn null_entry(alloc: Global, walk: &mut Walk) -> Result<TreeValueList, Stop>
-    ensures run { IfSome (run_of (map entry_data) result (state_of walk.new)) (λ r. r ≡ fallback_next [] Null (state_of walk.old)) }
+    ensures run { IfSome (run_of (map entry_data) result (state_of walk.new))
+        (λ r. r ≡ fallback_next [] Null (state_of walk.old)) }
     ensures path { path_of walk.new ≡ path_of walk.old }
 {
     match walk.count_item() {
@@ -105,7 +111,8 @@ fn each_fallback(
     values: &DefaultList,
     walk: &mut Walk,
 ) -> Result<TreeValueList, Stop>
-    ensures run { IfSome (run_of (map entry_data) result (state_of walk.new)) (λ r. r ≡ through fallback_next [] values.now (state_of walk.old)) }
+    ensures run { IfSome (run_of (map entry_data) result (state_of walk.new))
+        (λ r. r ≡ through fallback_next [] values.now (state_of walk.old)) }
     ensures path { path_of walk.new ≡ path_of walk.old }
 {
     let mut entries = TreeValueList::new(alloc);
@@ -124,7 +131,8 @@ fn next_fallback(
     entries: &mut TreeValueList,
     walk: &mut Walk,
 ) -> Result<(), Stop>
-    ensures run { IfSome (run_of (λ u. map entry_data entries.new) result (state_of walk.new)) (λ r. r ≡ fallback_next (map entry_data entries.old) value.now (state_of walk.old)) }
+    ensures run { IfSome (run_of (λ u. map entry_data entries.new) result (state_of walk.new))
+        (λ r. r ≡ fallback_next (map entry_data entries.old) value.now (state_of walk.old)) }
     ensures path { path_of walk.new ≡ path_of walk.old }
 {
     match walk.count_item() {

@@ -18,7 +18,8 @@ use lf_rdf::{GraphRef, Term};
 use std::alloc::Global;
 use std::sync::ledger::Ledger;
 
-/// Whether a sub-frame matches a node of a graph, by a view of it (JSON-LD 1.1 Framing, section 4.2.2).
+/// Whether a sub-frame matches a node of a graph, by a view of it (JSON-LD 1.1 Framing, section
+/// 4.2.2).
 pub fn form_matches<N: Nodes, L: Ledger>(
     alloc: Global,
     nodes: &mut N,
@@ -29,7 +30,12 @@ pub fn form_matches<N: Nodes, L: Ledger>(
     form: Form,
     steps: &mut Steps<L>,
 ) -> Result<bool, Memory>
-    ensures matched { IfOk result (λ found. Learns (IsNearOneFor (N.quads nodes.old) (form_of frame.now.nodes form) (IsOfView graph.now (view_data view.now))) (N.quads nodes.old) (N.told nodes.old) (N.told nodes.new) steps.old steps.new (λ dataset. matches_viewed (of_dataset dataset) graph.now (form_of frame.now.nodes form) id.now (view_data view.now)) found) }
+    ensures matched { IfOk result (λ found.
+        Learns (IsNearOneFor (N.quads nodes.old) (form_of frame.now.nodes form)
+        (IsOfView graph.now (view_data view.now))) (N.quads nodes.old) (N.told nodes.old)
+        (N.told nodes.new) steps.old steps.new (λ dataset.
+        matches_viewed (of_dataset dataset) graph.now (form_of frame.now.nodes form) id.now
+        (view_data view.now)) found) }
     ensures quads_stay { N.quads nodes.new ≡ N.quads nodes.old }
 {
     match form {
@@ -49,7 +55,12 @@ pub fn form_accepts<N: Nodes, L: Ledger>(
     form: Form,
     steps: &mut Steps<L>,
 ) -> Result<bool, Memory>
-    ensures accepted { IfOk result (λ found. Learns (IsNearOneFor (N.quads nodes.old) (form_of frame.now.nodes form) (IsOfValue graph.now (value_data value.now))) (N.quads nodes.old) (N.told nodes.old) (N.told nodes.new) steps.old steps.new (λ dataset. accepts (of_dataset dataset) graph.now (form_of frame.now.nodes form) (value_data value.now)) found) }
+    ensures accepted { IfOk result (λ found.
+        Learns (IsNearOneFor (N.quads nodes.old) (form_of frame.now.nodes form)
+        (IsOfValue graph.now (value_data value.now))) (N.quads nodes.old) (N.told nodes.old)
+        (N.told nodes.new) steps.old steps.new (λ dataset.
+        accepts (of_dataset dataset) graph.now (form_of frame.now.nodes form)
+        (value_data value.now)) found) }
     ensures quads_stay { N.quads nodes.new ≡ N.quads nodes.old }
 {
     match form {

@@ -1,4 +1,5 @@
-//! By which sub-frame the values of a property, the items of a list and the nodes of a graph are output; embedding calls it.
+//! By which sub-frame the values of a property, the items of a list and the nodes of a graph are
+//! output; embedding calls it.
 ghost use Rattle.std.specs.Prelude.{◌≡◌};
 ghost use Rattle.std.specs.Option.{option_map};
 ghost use Rattle.def_nested.specs.Nested.{flags_of, plain, props_list, within_of};
@@ -11,7 +12,8 @@ use lf_base::{Same, Text};
 use lf_match::later_row;
 use lf_model::{Embed, Frame, FrameKind, FrameProp, FramePropList};
 
-/// A sub-frame: match-none, a map of the frame's table by its number, or a wildcard with flags alone.
+/// A sub-frame: match-none, a map of the frame's table by its number, or a wildcard with flags
+/// alone.
 #[derive(Clone, Copy, Debug)]
 pub enum Form {
     Absent,
@@ -19,7 +21,8 @@ pub enum Form {
     Wild(WildFlags),
 }
 
-/// The flags of a wildcard (JSON-LD 1.1 Framing, section 4.1: the object embed, explicit inclusion and require all flags).
+/// The flags of a wildcard (JSON-LD 1.1 Framing, section 4.1: the object embed, explicit inclusion
+/// and require all flags).
 #[derive(Clone, Copy, Debug)]
 pub struct WildFlags {
     pub embed: Embed,
@@ -68,7 +71,8 @@ pub fn numbered(frame: &Frame, at: u32, number: Option<u32>) -> Form
 
 /// The sub-frame that a frame states for a property.
 pub fn stated_form(frame: &Frame, form: Form, property: &Text) -> Option<Form>
-    ensures { option_map (form_of frame.now.nodes) result ≡ stated (form_of frame.now.nodes form) property.now }
+    ensures { option_map (form_of frame.now.nodes) result
+        ≡ stated (form_of frame.now.nodes form) property.now }
 {
     match form {
         Form::Absent => None,
@@ -81,7 +85,9 @@ pub fn stated_form(frame: &Frame, form: Form, property: &Text) -> Option<Form>
 }
 
 fn stated_in(frame: &Frame, at: u32, props: &FramePropList, property: &Text) -> Option<Form>
-    ensures { option_map (form_of frame.now.nodes) result ≡ sub_at property.now (props_list (build_props (above at (nested frame.now.nodes)) props.now)) }
+    ensures { option_map (form_of frame.now.nodes) result
+        ≡ sub_at property.now
+        (props_list (build_props (above at (nested frame.now.nodes)) props.now)) }
 {
     for prop in props.as_slice() {
         if is_named(prop, property) {
@@ -97,7 +103,8 @@ fn is_named(prop: &FrameProp, property: &Text) -> bool
     prop.property.is(property)
 }
 
-/// The sub-frame by which a property's values are output: the stated one, or a wildcard with the frame's own flags.
+/// The sub-frame by which a property's values are output: the stated one, or a wildcard with the
+/// frame's own flags.
 pub fn sub_form(frame: &Frame, form: Form, property: &Text) -> Form
     ensures { form_of frame.now.nodes result ≡ sub_for (form_of frame.now.nodes form) property.now }
 {
@@ -147,7 +154,8 @@ fn list_item_form(frame: &Frame, at: u32, item: Option<u32>) -> Form
 
 /// The sub-frame of `@graph`, where the frame has it.
 pub fn graph_form(frame: &Frame, form: Form) -> Option<Form>
-    ensures { option_map (form_of frame.now.nodes) result ≡ within_frame (within_of (form_of frame.now.nodes form)) }
+    ensures { option_map (form_of frame.now.nodes) result
+        ≡ within_frame (within_of (form_of frame.now.nodes form)) }
 {
     match form {
         Form::Absent => None,
@@ -162,7 +170,8 @@ pub fn graph_form(frame: &Frame, form: Form) -> Option<Form>
     }
 }
 
-/// Whether a property takes no default, by its sub-frame's `@omitDefault` where stated, else by the frame's.
+/// Whether a property takes no default, by its sub-frame's `@omitDefault` where stated, else by the
+/// frame's.
 pub fn omits(frame: &Frame, form: Form, sub: Form) -> bool
     ensures { result ≡ is_omitted (form_of frame.now.nodes form) (form_of frame.now.nodes sub) }
 {

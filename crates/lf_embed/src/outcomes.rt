@@ -28,12 +28,14 @@ use std::sync::ledger::Ledger;
 /// The most nodes on a path.
 pub const PATH_LIMIT: u32 = 256;
 
-/// The outcome of a term by a frame (JSON-LD 1.1 Framing, section 4.2.1: the top frame selects nodes of the framed graph): the term
-/// is no key, it doesn't match, its tree, or the limit of items or of depth that its tree is past.
+/// The outcome of a term by a frame (JSON-LD 1.1 Framing, section 4.2.1: the top frame selects
+/// nodes of the framed graph): the term is no key, it doesn't match, its tree, or the limit of
+/// items or of depth that its tree is past.
 ///
-/// A node is viewed once for each visit. For a tree of n items it takes some n log n comparisons of texts, for each node that it
-/// holds one with each step of the path, and for each property of a node one with each property of its frame. The questions are near
-/// the term, where the predicates of the dataset are IRIs.
+/// A node is viewed once for each visit. For a tree of n items it takes some n log n comparisons of
+/// texts, for each node that it holds one with each step of the path, and for each property of a
+/// node one with each property of its frame. The questions are near the term, where the predicates
+/// of the dataset are IRIs.
 pub fn tree<N: Nodes, L: Ledger>(
     alloc: Global,
     nodes: &mut N,
@@ -41,7 +43,10 @@ pub fn tree<N: Nodes, L: Ledger>(
     x: &Term,
     steps: &mut Steps<L>,
 ) -> Result<Outcome, Memory>
-    ensures outcome { IfOk result (λ made. Learns (IsNearTo (N.quads nodes.old) (reversed_in (nested_frame frame.now)) x.now) (N.quads nodes.old) (N.told nodes.old) (N.told nodes.new) steps.old steps.new (λ dataset. outcome (of_dataset dataset) frame.now x.now) (outcome_data made)) }
+    ensures outcome { IfOk result (λ made.
+        Learns (IsNearTo (N.quads nodes.old) (reversed_in (nested_frame frame.now)) x.now)
+        (N.quads nodes.old) (N.told nodes.old) (N.told nodes.new) steps.old steps.new
+        (λ dataset. outcome (of_dataset dataset) frame.now x.now) (outcome_data made)) }
     ensures quads_stay { N.quads nodes.new ≡ N.quads nodes.old }
 {
     let graph = framed_graph(frame.top_graph);
@@ -58,7 +63,12 @@ fn outcome_in<N: Nodes, L: Ledger>(
     frame: &Frame,
     steps: &mut Steps<L>,
 ) -> Result<Outcome, Memory>
-    ensures outcome { IfOk result (λ made. Learns (IsNearBy (N.quads nodes.old) (reversed_in (nested frame.now.nodes 0)) (IsOfNode graph.now x.now)) (N.quads nodes.old) (N.told nodes.old) (N.told nodes.new) steps.old steps.new (λ dataset. outcome_in (of_dataset dataset) (nested frame.now.nodes 0) graph.now x.now) (outcome_data made)) }
+    ensures outcome { IfOk result (λ made.
+        Learns (IsNearBy (N.quads nodes.old) (reversed_in (nested frame.now.nodes 0))
+        (IsOfNode graph.now x.now)) (N.quads nodes.old) (N.told nodes.old)
+        (N.told nodes.new) steps.old steps.new (λ dataset.
+        outcome_in (of_dataset dataset) (nested frame.now.nodes 0) graph.now x.now)
+        (outcome_data made)) }
     ensures quads_stay { N.quads nodes.new ≡ N.quads nodes.old }
 {
     match nodes.node(alloc, graph, x, steps)? {
@@ -83,7 +93,14 @@ fn new_tree<N: Nodes, L: Ledger>(
     frame: &Frame,
     steps: &mut Steps<L>,
 ) -> Result<Outcome, Memory>
-    ensures outcome { IfOk result (λ made. Learns (IsNearBy (N.quads nodes.old) (reversed_in (nested frame.now.nodes 0)) (IsOfNodeOrView graph.now x.now (view_data view.now))) (N.quads nodes.old) (N.told nodes.old) (N.told nodes.new) steps.old steps.new (λ dataset. outcome_of_result (embed_viewed (of_dataset dataset) depth_limit graph.now x.now (nested frame.now.nodes 0) true (view_data view.now) [] at_first)) (outcome_data made)) }
+    ensures outcome { IfOk result (λ made.
+        Learns (IsNearBy (N.quads nodes.old) (reversed_in (nested frame.now.nodes 0))
+        (IsOfNodeOrView graph.now x.now (view_data view.now))) (N.quads nodes.old)
+        (N.told nodes.old) (N.told nodes.new) steps.old steps.new
+        (λ dataset.
+        outcome_of_result (embed_viewed (of_dataset dataset) depth_limit graph.now x.now
+        (nested frame.now.nodes 0) true (view_data view.now) [] at_first))
+        (outcome_data made)) }
     ensures quads_stay { N.quads nodes.new ≡ N.quads nodes.old }
 {
     let mut walk = Walk::new(alloc);
@@ -102,7 +119,14 @@ fn top_tree<N: Nodes, L: Ledger>(
     walk: &mut Walk,
     steps: &mut Steps<L>,
 ) -> Result<Outcome, Memory>
-    ensures outcome { IfOk result (λ made. Learns (IsNearBy (N.quads nodes.old) (reversed_in (nested frame.now.nodes 0)) (IsOfNodeOrView graph.now x.now (view_data view.now))) (N.quads nodes.old) (N.told nodes.old) (N.told nodes.new) steps.old steps.new (λ dataset. outcome_of_result (embed_viewed (of_dataset dataset) depth_limit graph.now x.now (nested frame.now.nodes 0) true (view_data view.now) (path_of walk.old) (state_of walk.old))) (outcome_data made)) }
+    ensures outcome { IfOk result (λ made.
+        Learns (IsNearBy (N.quads nodes.old) (reversed_in (nested frame.now.nodes 0))
+        (IsOfNodeOrView graph.now x.now (view_data view.now))) (N.quads nodes.old)
+        (N.told nodes.old) (N.told nodes.new) steps.old steps.new
+        (λ dataset.
+        outcome_of_result (embed_viewed (of_dataset dataset) depth_limit graph.now x.now
+        (nested frame.now.nodes 0) true (view_data view.now) (path_of walk.old)
+        (state_of walk.old))) (outcome_data made)) }
     ensures quads_stay { N.quads nodes.new ≡ N.quads nodes.old }
 {
     match embed_viewed(

@@ -1,4 +1,5 @@
-//! The parts of a node put together: its outputs, properties and reverse properties. Embedding calls it; it asks nothing.
+//! The parts of a node put together: its outputs, properties and reverse properties. Embedding
+//! calls it; it asks nothing.
 ghost use Rattle.std.specs.Prelude.{◌≡◌, ◌++◌, IfOk, OnOk, Some, map};
 ghost use Rattle.std.specs.Option.{option_map};
 ghost use Rattle.lf_model.specs.TreeData.{node_entry, nodes_of, properties_of, reverses_of, tree};
@@ -24,7 +25,11 @@ pub fn assemble(
     defaults: TreePropList,
     reverse: TreeReverseList,
 ) -> Result<Tree, Memory>
-    ensures { IfOk result (λ made. tree_data made ≡ tree (Some id.now) types (nodes_of (map tree_data graph)) (properties_of (map property_data values ++ map property_data defaults)) (reverses_of (map reverse_data reverse))) }
+    ensures { IfOk result (λ made.
+        tree_data made
+        ≡ tree (Some id.now) types (nodes_of (map tree_data graph))
+        (properties_of (map property_data values ++ map property_data defaults))
+        (reverses_of (map reverse_data reverse))) }
 {
     let props = joined(values, defaults)?;
     Ok(Tree {
@@ -54,7 +59,8 @@ pub fn add_property(
     entries: TreeValueList,
     made: &mut TreePropList,
 ) -> Result<(), Memory>
-    ensures { OnOk result (map property_data made.new ≡ with_property property.now (map entry_data entries) (map property_data made.old)) }
+    ensures { OnOk result (map property_data made.new
+        ≡ with_property property.now (map entry_data entries) (map property_data made.old)) }
 {
     if entries.is_empty() {
         return Ok(());
@@ -74,7 +80,8 @@ pub fn add_reverse(
     nodes: TreeList,
     made: &mut TreeReverseList,
 ) -> Result<(), Memory>
-    ensures { OnOk result (map reverse_data made.new ≡ with_reverse property.now (map tree_data nodes) (map reverse_data made.old)) }
+    ensures { OnOk result (map reverse_data made.new
+        ≡ with_reverse property.now (map tree_data nodes) (map reverse_data made.old)) }
 {
     if nodes.is_empty() {
         return Ok(());
@@ -88,7 +95,8 @@ pub fn add_reverse(
 
 /// A node joins those that were output, where there is one.
 pub fn push_tree(made: Option<Tree>, trees: &mut TreeList) -> Result<(), Memory>
-    ensures { OnOk result (map tree_data trees.new ≡ with_made (option_map tree_data made) (map tree_data trees.old)) }
+    ensures { OnOk result (map tree_data trees.new
+        ≡ with_made (option_map tree_data made) (map tree_data trees.old)) }
 {
     match made {
         None => Ok(()),
@@ -101,7 +109,8 @@ pub fn push_tree(made: Option<Tree>, trees: &mut TreeList) -> Result<(), Memory>
 
 /// A value joins those that were output, where there is one.
 pub fn push_entry(made: Option<TreeValue>, entries: &mut TreeValueList) -> Result<(), Memory>
-    ensures { OnOk result (map entry_data entries.new ≡ with_made (option_map entry_data made) (map entry_data entries.old)) }
+    ensures { OnOk result (map entry_data entries.new
+        ≡ with_made (option_map entry_data made) (map entry_data entries.old)) }
 {
     match made {
         None => Ok(()),

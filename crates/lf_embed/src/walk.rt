@@ -1,4 +1,5 @@
-//! What a tree has embedded and output so far, and the path to the node at hand. The functions of embedding hand it on.
+//! What a tree has embedded and output so far, and the path to the node at hand. The functions of
+//! embedding hand it on.
 ghost use Rattle.std.specs.Prelude.{◌≡◌, [], ◌∷◌, ◌+◌, ◌<◌, IfErr, IfOk, OnOk, drop};
 ghost use Rattle.std.specs.List.{list_any};
 ghost use Rattle.lf_model.specs.declared.document.Limit.TheVariants.{TreeItems};
@@ -39,7 +40,8 @@ impl From<Memory> for Stop {
     }
 }
 
-/// A walk through a tree. The set of embedded nodes keeps the order of insertion and is new for each tree.
+/// A walk through a tree. The set of embedded nodes keeps the order of insertion and is new for
+/// each tree.
 #[derive(Drop)]
 pub struct Walk {
     embedded: IndexSet<Place>,
@@ -65,7 +67,8 @@ impl Walk {
         ensures counted { OnOk result (item (state_of self.old) ≡ gives tt (state_of self.new)) }
         ensures full { IfErr result (λ e. (e ≡ Over TreeItems) × (item (state_of self.old) ≡ over TreeItems)) }
         ensures path { path_of self.new ≡ path_of self.old }
-        ensures room { OnOk result (((state_of self.old).count < item_limit) × ((state_of self.new).count ≡ (state_of self.old).count + 1)) }
+        ensures room { OnOk result (((state_of self.old).count < item_limit)
+            × ((state_of self.new).count ≡ (state_of self.old).count + 1)) }
     {
         if self.count < ITEM_LIMIT {
             self.count += 1;
@@ -77,8 +80,10 @@ impl Walk {
 
     /// A node joins the embedded nodes and the path.
     pub fn enter(&mut self, alloc: Global, graph: &GraphRef, id: &Term) -> Result<(), Memory>
-        ensures entered { OnOk result (state_of self.new ≡ entered (record { graph = graph.now; id = id.now }) (state_of self.old)) }
-        ensures path { OnOk result (path_of self.new ≡ record { graph = graph.now; id = id.now } ∷ path_of self.old) }
+        ensures entered { OnOk result (state_of self.new
+            ≡ entered (record { graph = graph.now; id = id.now }) (state_of self.old)) }
+        ensures path { OnOk result
+            (path_of self.new ≡ record { graph = graph.now; id = id.now } ∷ path_of self.old) }
     {
         let step = place_of(alloc, graph, id)?;
         let place = place_of(alloc, graph, id)?;
@@ -109,7 +114,8 @@ impl Walk {
         !any_in_graph(self.path.as_slice(), name)
     }
 
-    /// Whether a node that isn't embedded free is output as a reference (JSON-LD 1.1 Framing, section 4.1: the object embed flag).
+    /// Whether a node that isn't embedded free is output as a reference (JSON-LD 1.1 Framing,
+    /// section 4.1: the object embed flag).
     pub fn is_referred(
         &self,
         alloc: Global,
@@ -117,7 +123,10 @@ impl Walk {
         graph: &GraphRef,
         id: &Term,
     ) -> Result<bool, Memory>
-        ensures { IfOk result (λ referred. referred ≡ as_reference embed (record { graph = graph.now; id = id.now }) (path_of self.now) (state_of self.now)) }
+        ensures { IfOk result (λ referred.
+            referred
+            ≡ as_reference embed (record { graph = graph.now; id = id.now })
+            (path_of self.now) (state_of self.now)) }
     {
         match embed {
             Embed::Never => Ok(true),
@@ -150,7 +159,10 @@ fn place_of(alloc: Global, graph: &GraphRef, id: &Term) -> Result<Place, Memory>
 }
 
 fn any_step(path: &[Place], graph: &GraphRef, id: &Term) -> bool
-    ensures { result ≡ list_any (λ step. place_eq (record { graph = graph.now; id = id.now }) (place_data step)) path.now }
+    ensures { result
+        ≡ list_any
+        (λ step. place_eq (record { graph = graph.now; id = id.now }) (place_data step))
+        path.now }
 {
     path.iter().any(|step| is_step(step, graph, id))
 }

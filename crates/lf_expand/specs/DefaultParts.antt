@@ -8,7 +8,8 @@ use Rattle.lf_model.specs.JsonData.{JsonValue}
 use Rattle.def_contexts.specs.Outcomes.{◌>>=◌}
 use Rattle.def_contexts.specs.Defaults.{default_of}
 
-abbrev pub default_alone : TermTable → Option TermDef → JsonValue → Result (List DefaultValue) LdError
+abbrev pub default_alone :
+    TermTable → Option TermDef → JsonValue → Result (List DefaultValue) LdError
 default_alone table term value = do
   only ← default_of table term value
   Ok (only ∷ [])

@@ -1,4 +1,5 @@
--- What a reader of frames answers: what the definition gives, or its error, unless no memory was found.
+-- What a reader of frames answers: what the definition gives, or its error, unless no memory was
+-- found.
 use Rattle.std.specs.Prelude.{◌≡◌, Result, Ok, Err}
 use Rattle.lf_model.specs.declared.error.LdError.{LdError}
 use Rattle.lf_expand.specs.declared.error.FrameErr.{FrameErr}

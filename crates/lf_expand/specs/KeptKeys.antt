@@ -19,13 +19,15 @@ is_kept (property iri term) is_null = not is_null
 is_kept (reverse_property iri) is_null = true
 
 abbrev pub nothing_kept : Kept
-nothing_kept = record { of_value = false; of_list = false; any = false; more = false; set_first = false }
+nothing_kept =
+    record { of_value = false; of_list = false; any = false; more = false; set_first = false }
 
 -- one more key that is kept
 abbrev pub with_key : Kept → Meaning → Kept
 with_key keys m =
     record {
-      of_value = keys.of_value || is_the_keyword (codes "@value") m || is_the_keyword (codes "@language") m;
+      of_value = keys.of_value || is_the_keyword (codes "@value") m
+          || is_the_keyword (codes "@language") m;
       of_list = keys.of_list || is_the_keyword (codes "@list") m;
       any = true;
       more = keys.more || keys.any;

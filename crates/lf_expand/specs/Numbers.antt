@@ -1,4 +1,5 @@
--- The numbers of a frame's maps: while the frame is read each map stands behind those that it holds, and in the end before them.
+-- The numbers of a frame's maps: while the frame is read each map stands behind those that it
+-- holds, and in the end before them.
 use Rattle.std.specs.Prelude.{◌≡◌, ◌<◌, ◌-◌, ℕ, List, length, slice_get, map, Option, Some, None}
 use Rattle.std.specs.Option.{option_map}
 use Rattle.std.specs.List.{AllByRecursion}
@@ -63,10 +64,12 @@ KindIsLater own bound (frame_kind.Value pattern) = Unit {0}
 -- a map names sub-frames of the table by numbers larger than its own
 pub record NamesLater (own bound : ℕ) (row : FrameNode) : Type 0 where
   pub props : AllByRecursion (λ (p : FrameProp). IsLater own bound p.frame) row.props
-  pub reverses : AllByRecursion (λ (p : FrameReverse). (own < p.frame) × (p.frame < bound)) row.reverse
+  pub reverses :
+      AllByRecursion (λ (p : FrameReverse). (own < p.frame) × (p.frame < bound)) row.reverse
   pub graph : IsLater own bound row.graph
   pub kind : KindIsLater own bound row.kind
 
 -- so does each map of a table
 abbrev pub NamesLargerNumbers : List FrameNode → Type 0
-NamesLargerNumbers rows = (own : ℕ) (row : FrameNode) → slice_get rows own ≡ Some row → NamesLater own (length rows) row
+NamesLargerNumbers rows =
+    (own : ℕ) (row : FrameNode) → slice_get rows own ≡ Some row → NamesLater own (length rows) row

@@ -47,8 +47,10 @@ keyword_added name r = record r { keywords = put_entry name true r.keywords }
 
 abbrev pub property_given : List ℕ → Found → program.Reading → program.Reading
 property_given iri found.Dropped r = record r { dropped = put_entry iri true r.dropped }
-property_given iri found.MatchNone r = record r { props = put_entry iri None r.props; flags_alone = false }
-property_given iri (found.Numbered n) r = record r { props = put_entry iri (Some n) r.props; flags_alone = false }
+property_given iri found.MatchNone r =
+    record r { props = put_entry iri None r.props; flags_alone = false }
+property_given iri (found.Numbered n) r =
+    record r { props = put_entry iri (Some n) r.props; flags_alone = false }
 
 abbrev pub reverse_given : List ℕ → ℕ → program.Reading → program.Reading
 reverse_given iri n r = record r { reverse = put_entry iri n r.reverse; flags_alone = false }
@@ -107,9 +109,12 @@ reading_of sub r lists =
     }
 
 -- the maps of keys tell which were read, and their numbers lie below a bound
-pub record Tells (bound : ℕ) (keywords dropped : List (Entry Bool)) (props : List (Entry (Option ℕ))) (reverse : List (Entry ℕ)) (graph item : Option ℕ) (lists : Lists) : Type 0 where
+pub record Tells (bound : ℕ) (keywords dropped : List (Entry Bool))
+    (props : List (Entry (Option ℕ))) (reverse : List (Entry ℕ)) (graph item : Option ℕ)
+    (lists : Lists) : Type 0 where
   pub keyword : (name : List ℕ) → one_of lists.keywords name ≡ has_key name keywords
-  pub property : (iri : List ℕ) → one_of lists.properties iri ≡ (has_key iri props || has_key iri dropped)
+  pub property :
+      (iri : List ℕ) → one_of lists.properties iri ≡ (has_key iri props || has_key iri dropped)
   pub reversed : (iri : List ℕ) → one_of lists.reversed iri ≡ has_key iri reverse
   pub props_within : PropsWithin bound props
   pub reverses_within : ReversesWithin bound reverse
@@ -137,30 +142,37 @@ IsMapWhere true found.Dropped = Unit {0}
 IsMapWhere true (found.Numbered n) = Unit {0}
 IsMapWhere false f = Unit {0}
 
-pub record IsFound (old new : List Row) (place : Place) (f : Found) (defined : Result (Option Nested) LdError) : Type 0 where
+pub record IsFound (old new : List Row) (place : Place) (f : Found)
+    (defined : Result (Option Nested) LdError) : Type 0 where
   pub keeps : Keeps old new
   pub is : defined ≡ Ok (found_data (built new) f)
   pub within : FoundWithin (length new) f
   pub maps : IsMapWhere (takes_maps_alone place) f
 
 -- what reading a value answers
-abbrev pub Finds : List Row → List Row → Place → Result Found FrameErr → Result (Option Nested) LdError → Type 0
+abbrev pub Finds :
+    List Row → List Row → Place → Result Found FrameErr → Result (Option Nested) LdError → Type 0
 Finds old new place (Ok f) defined = IsFound old new place f defined
 Finds old new place (Err e) defined = Fails e defined
 
-pub record IsRead (old new : List Row) (r : program.Reading) (defined : Result Reading LdError) : Type 0 where
+pub record IsRead (old new : List Row) (r : program.Reading) (defined : Result Reading LdError) :
+    Type 0 where
   pub keeps : Keeps old new
   pub lists : Lists
   pub is : defined ≡ Ok (reading_of (built new) r lists)
   pub tells : Told (length new) r lists
 
 -- what reading keys answers
-abbrev pub Reads : {U : Type 0} → List Row → List Row → program.Reading → Result U FrameErr → Result Reading LdError → Type 0
+abbrev pub Reads :
+    {U : Type 0} → List Row → List Row → program.Reading → Result U FrameErr →
+    Result Reading LdError → Type 0
 Reads old new r (Ok _) defined = IsRead old new r defined
 Reads old new r (Err e) defined = Fails e defined
 
 -- a map that asks for what was given
 abbrev pub given_row : Given → Row
 given_row (reference node) =
-    record (plain_row frame_kind.Node) { flags = record plain_flags { ids = id_test.OneOf (node ∷ []) } }
-given_row (plain_value s datatype language) = plain_row (frame_kind.Value (pattern_of s datatype language))
+    record (plain_row frame_kind.Node)
+    { flags = record plain_flags { ids = id_test.OneOf (node ∷ []) } }
+given_row (plain_value s datatype language) =
+    plain_row (frame_kind.Value (pattern_of s datatype language))

@@ -22,8 +22,8 @@ pub enum MapClass {
     Node,
 }
 
-// What is known of the keys that are kept: whether one is `@value` or `@language`, whether one is `@list`, whether
-// there is one, whether there are more, and whether the first is `@set`.
+// What is known of the keys that are kept: whether one is `@value` or `@language`, whether one is
+// `@list`, whether there is one, whether there are more, and whether the first is `@set`.
 #[derive(Clone, Copy, Debug)]
 struct Kept {
     of_value: bool,
@@ -112,7 +112,10 @@ fn stands_for_null(alloc: Global, terms: &Terms<'_>, value: &Json) -> Result<boo
 // The values of other keys are looked at only where `@set` stands for null.
 #[cycle(nulls)]
 fn map_for_null(alloc: Global, terms: &Terms<'_>, members: &JsonMap) -> Result<bool, Memory>
-    ensures { IfOk result (λ b. b ≡ (is_set_only (kept terms.now.table.now (members_data members.now)) && set_for_null terms.now.table.now (members_data members.now))) }
+    ensures { IfOk result (λ b.
+        b
+        ≡ (is_set_only (kept terms.now.table.now (members_data members.now))
+        && set_for_null terms.now.table.now (members_data members.now))) }
 {
     if !set_for_null(alloc, terms, members)? {
         return Ok(false);
@@ -138,7 +141,8 @@ fn set_for_null(alloc: Global, terms: &Terms<'_>, members: &JsonMap) -> Result<b
 // The keys that are kept.
 #[cycle(nulls)]
 fn kept_keys(alloc: Global, terms: &Terms<'_>, members: &JsonMap) -> Result<Kept, Memory>
-    ensures { IfOk result (λ keys. keys ≡ kept_keys nothing_kept (kept terms.now.table.now (members_data members.now))) }
+    ensures { IfOk result (λ keys.
+        keys ≡ kept_keys nothing_kept (kept terms.now.table.now (members_data members.now))) }
 {
     let mut keys = Kept::nothing();
     for member in members.as_slice() {
@@ -158,7 +162,10 @@ fn is_kept(
     meaning: &Meaning<'_>,
     value: &Json,
 ) -> Result<bool, Memory>
-    ensures { IfOk result (λ b. b ≡ is_kept (meaning_data meaning.now) (stands_for_null terms.now.table.now (json_data value.now))) }
+    ensures { IfOk result (λ b.
+        b
+        ≡ is_kept (meaning_data meaning.now)
+        (stands_for_null terms.now.table.now (json_data value.now))) }
 {
     match meaning {
         Meaning::Dropped => Ok(false),
@@ -170,7 +177,8 @@ fn is_kept(
 
 /// What a map is by its keys.
 pub fn class_of(alloc: Global, terms: &Terms<'_>, members: &JsonMap) -> Result<MapClass, Memory>
-    ensures { IfOk result (λ class. class_data class ≡ class_of terms.now.table.now (members_data members.now)) }
+    ensures { IfOk result
+        (λ class. class_data class ≡ class_of terms.now.table.now (members_data members.now)) }
 {
     let keys = kept_keys(alloc, terms, members)?;
     Ok(keys.class())

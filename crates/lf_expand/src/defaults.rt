@@ -72,7 +72,8 @@ fn default_scalar(
     term: Option<&TermDef>,
     scalar: Scalar,
 ) -> Result<DefaultValue, FrameErr>
-    ensures { Gives (λ value. value) result (default_scalar terms.now.table.now (option_copied term.entry) scalar) }
+    ensures { Gives (λ value. value) result
+        (default_scalar terms.now.table.now (option_copied term.entry) scalar) }
 {
     let given = value_given(alloc, terms, term, scalar)?;
     Ok(default_given(given))
@@ -85,7 +86,8 @@ fn default_text(
     term: Option<&TermDef>,
     text: &Text,
 ) -> Result<DefaultValue, FrameErr>
-    ensures { Gives (λ value. value) result (default_text terms.now.table.now (option_copied term.entry) text.now) }
+    ensures { Gives (λ value. value) result
+        (default_text terms.now.table.now (option_copied term.entry) text.now) }
 {
     if text.as_str() == "@null" {
         return Ok(DefaultValue::Null);
@@ -100,7 +102,8 @@ fn default_reference(
     terms: &Terms<'_>,
     id: Option<&Json>,
 ) -> Result<DefaultValue, FrameErr>
-    ensures { Gives (λ value. value) result (default_reference terms.now.table.now (option_map json_data (option_copied id.entry))) }
+    ensures { Gives (λ value. value) result
+        (default_reference terms.now.table.now (option_map json_data (option_copied id.entry))) }
 {
     match id {
         Some(value) => match text_in(value) {
@@ -135,7 +138,8 @@ fn default_datatype(
     terms: &Terms<'_>,
     value: Option<&Json>,
 ) -> Result<Option<Text>, FrameErr>
-    ensures { Gives (λ datatype. datatype) result (default_datatype terms.now.table.now (option_map json_data (option_copied value.entry))) }
+    ensures { Gives (λ datatype. datatype) result (default_datatype terms.now.table.now
+        (option_map json_data (option_copied value.entry))) }
 {
     match value {
         Some(value) => match text_in(value) {
@@ -148,7 +152,8 @@ fn default_datatype(
 
 // `@language` of a default, in small letters.
 fn default_language(alloc: Global, value: Option<&Json>) -> Result<Option<Text>, FrameErr>
-    ensures { Gives (λ language. language) result (default_language (option_map json_data (option_copied value.entry))) }
+    ensures { Gives (λ language. language) result
+        (default_language (option_map json_data (option_copied value.entry))) }
 {
     match value {
         Some(value) => match text_in(value) {
@@ -161,7 +166,8 @@ fn default_language(alloc: Global, value: Option<&Json>) -> Result<Option<Text>,
 
 // `@value` of a default.
 fn default_value_scalar(alloc: Global, value: Option<&Json>) -> Result<Scalar, FrameErr>
-    ensures { Gives (λ scalar. scalar) result (default_value_scalar (option_map json_data (option_copied value.entry))) }
+    ensures { Gives (λ scalar. scalar) result
+        (default_value_scalar (option_map json_data (option_copied value.entry))) }
 {
     match value {
         Some(value) => match scalar_of(alloc, value)? {
@@ -237,7 +243,8 @@ fn default_of(
     term: Option<&TermDef>,
     value: &Json,
 ) -> Result<DefaultValue, FrameErr>
-    ensures { Gives (λ value. value) result (default_of terms.now.table.now (option_copied term.entry) (json_data value.now)) }
+    ensures { Gives (λ value. value) result
+        (default_of terms.now.table.now (option_copied term.entry) (json_data value.now)) }
 {
     match value {
         Json::Null => Ok(DefaultValue::Null),
@@ -256,7 +263,8 @@ fn defaults_of_items(
     term: Option<&TermDef>,
     items: &[Json],
 ) -> Result<DefaultList, FrameErr>
-    ensures { Gives (λ values. values) result (defaults_of_items terms.now.table.now (option_copied term.entry) (items_data items.now)) }
+    ensures { Gives (λ values. values) result (defaults_of_items terms.now.table.now
+        (option_copied term.entry) (items_data items.now)) }
 {
     let mut values = ListOf::new(alloc);
     for item in items {
@@ -275,7 +283,8 @@ fn default_alone(
     term: Option<&TermDef>,
     value: &Json,
 ) -> Result<DefaultList, FrameErr>
-    ensures { Gives (λ values. values) result (default_alone terms.now.table.now (option_copied term.entry) (json_data value.now)) }
+    ensures { Gives (λ values. values) result
+        (default_alone terms.now.table.now (option_copied term.entry) (json_data value.now)) }
 {
     let only = default_of(alloc, terms, term, value)?;
     let mut values = ListOf::new(alloc);
@@ -291,7 +300,8 @@ pub fn defaults_of(
     term: Option<&TermDef>,
     value: &Json,
 ) -> Result<DefaultList, FrameErr>
-    ensures { Gives (λ values. values) result (defaults_of terms.now.table.now (option_copied term.entry) (json_data value.now)) }
+    ensures { Gives (λ values. values) result
+        (defaults_of terms.now.table.now (option_copied term.entry) (json_data value.now)) }
 {
     match value {
         Json::List(items) => defaults_of_items(alloc, terms, term, items.as_slice()),

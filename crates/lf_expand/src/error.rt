@@ -6,7 +6,8 @@ use thiserror::Error;
 /// Why a JSON value gives no frame.
 #[derive(Clone, Copy, Debug, PartialEq, Eq, Error)]
 pub enum FrameErr {
-    /// The context or the frame is refused (JSON-LD 1.1 Processing Algorithms and API, section 9.6; JSON-LD 1.1 Framing, section 5.3).
+    /// The context or the frame is refused (JSON-LD 1.1 Processing Algorithms and API, section 9.6;
+    /// JSON-LD 1.1 Framing, section 5.3).
     #[error("{0}")]
     Ld(LdError),
     #[error("out of memory")]

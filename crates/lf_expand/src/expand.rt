@@ -70,7 +70,8 @@ fn map_alone(only: &Json) -> Result<&[Entry<Json>], FrameErr>
 
 /// The context of a frame's map.
 pub fn context_of(members: &[Entry<Json>]) -> Option<&Json>
-    ensures { option_map json_data (option_copied result) ≡ value_of (codes "@context") (members_data members.now) }
+    ensures { option_map json_data (option_copied result)
+        ≡ value_of (codes "@context") (members_data members.now) }
 {
     for member in members {
         if "@context" == member.key.as_str() {
@@ -82,7 +83,10 @@ pub fn context_of(members: &[Entry<Json>]) -> Option<&Json>
 
 // Whether a key beside the context is `@graph`.
 fn has_graph(alloc: Global, terms: &Terms<'_>, members: &[Entry<Json>]) -> Result<bool, Memory>
-    ensures { IfOk result (λ b. b ≡ has_graph terms.now.table.now (without_key (codes "@context") (members_data members.now))) }
+    ensures { IfOk result (λ b.
+        b
+        ≡ has_graph terms.now.table.now
+        (without_key (codes "@context") (members_data members.now))) }
 {
     for member in members {
         if "@context" != member.key.as_str() && means(alloc, terms, &member.key, "@graph")? {
@@ -92,8 +96,8 @@ fn has_graph(alloc: Global, terms: &Terms<'_>, members: &[Entry<Json>]) -> Resul
     Ok(false)
 }
 
-// The members of a frame's map. Where `@graph` is the only key beside the context, those of its value; then a key
-// `@context` is one of them.
+// The members of a frame's map. Where `@graph` is the only key beside the context, those of its
+// value; then a key `@context` is one of them.
 #[derive(Drop)]
 struct Inner<'a> {
     members: &'a [Entry<Json>],
@@ -105,7 +109,9 @@ fn unwrapped<'a>(
     terms: &Terms<'_>,
     members: &'a [Entry<Json>],
 ) -> Result<Inner<'a>, FrameErr>
-    ensures { Gives (λ inner. shown inner.has_context (members_data inner.members.now)) result (unwrapped terms.now.table.now (without_key (codes "@context") (members_data members.now))) }
+    ensures { Gives (λ inner. shown inner.has_context (members_data inner.members.now)) result
+        (unwrapped terms.now.table.now
+        (without_key (codes "@context") (members_data members.now))) }
 {
     let mut sole: Option<&Entry<Json>> = None;
     for member in members {
@@ -157,7 +163,10 @@ fn read_top(
     rows: &mut Vec<Row>,
     read: &mut Reading,
 ) -> Result<(), FrameErr>
-    ensures { (lists : Lists) → Told (length rows.old.items) read.old lists → Reads rows.old.items rows.new.items read.new result (read_members terms.now.table.now (shown inner.now.has_context (members_data inner.now.members.now)) node_map (place_data place.now) (reading_of (built rows.old.items) read.old lists)) }
+    ensures { (lists : Lists) → Told (length rows.old.items) read.old lists →
+        Reads rows.old.items rows.new.items read.new result (read_members terms.now.table.now
+        (shown inner.now.has_context (members_data inner.now.members.now)) node_map
+        (place_data place.now) (reading_of (built rows.old.items) read.old lists)) }
 {
     for member in inner.members {
         if is_passed(inner, member.key.as_str()) {
@@ -182,7 +191,8 @@ fn read_top(
 
 // The maps of the top frame.
 fn top_frame(alloc: Global, terms: &Terms<'_>, inner: &Inner<'_>) -> Result<FrameNodeList, FrameErr>
-    ensures frame { Gives (λ nodes. nested nodes 0) result (top_frame terms.now.table.now (shown inner.now.has_context (members_data inner.now.members.now))) }
+    ensures frame { Gives (λ nodes. nested nodes 0) result (top_frame terms.now.table.now
+        (shown inner.now.has_context (members_data inner.now.members.now))) }
     ensures numbers { IfOk result NamesLargerNumbers }
 {
     let mut rows = Vec::new(alloc);
@@ -214,7 +224,8 @@ struct Maps {
 // The maps of a frame by its term table.
 fn read_maps(alloc: Global, table: &TermTable, members: &[Entry<Json>]) -> Result<Maps, FrameErr>
     requires { IsTrue (ascends table.now.terms) }
-    ensures frame { Gives (λ maps. (nested maps.nodes 0, maps.top_graph)) result (maps_by table.now (without_key (codes "@context") (members_data members.now))) }
+    ensures frame { Gives (λ maps. (nested maps.nodes 0, maps.top_graph)) result
+        (maps_by table.now (without_key (codes "@context") (members_data members.now))) }
     ensures numbers { IfOk result (λ maps. NamesLargerNumbers maps.nodes) }
 {
     let terms = Terms::of(table);
@@ -226,7 +237,9 @@ fn read_maps(alloc: Global, table: &TermTable, members: &[Entry<Json>]) -> Resul
 
 // The context of a frame's map; null where it has none.
 fn context_value(alloc: Global, members: &[Entry<Json>]) -> Result<Json, Memory>
-    ensures { IfOk result (λ context. json_data context ≡ unwrap_or (value_of (codes "@context") (members_data members.now)) null) }
+    ensures { IfOk result (λ context.
+        json_data context
+        ≡ unwrap_or (value_of (codes "@context") (members_data members.now)) null) }
 {
     match context_of(members) {
         Some(value) => Ok(value.copy(alloc)?),
@@ -242,7 +255,8 @@ fn frame_of_table(
     table: TermTable,
 ) -> Result<Frame, FrameErr>
     requires { IsTrue (ascends table.terms) }
-    ensures frame { Gives frame_meaning result (framed (json_data context) table (without_key (codes "@context") (members_data members.now))) }
+    ensures frame { Gives frame_meaning result (framed (json_data context) table
+        (without_key (codes "@context") (members_data members.now))) }
     ensures numbers { IfOk result (λ f. NamesLargerNumbers f.nodes) }
 {
     match read_maps(alloc, &table, members) {
@@ -262,7 +276,9 @@ fn frame_of_table(
 
 // A frame by its own context.
 fn frame_by(alloc: Global, members: &[Entry<Json>]) -> Result<Frame, FrameErr>
-    ensures frame { Gives frame_meaning result (frame_by (unwrap_or (value_of (codes "@context") (members_data members.now)) null) (without_key (codes "@context") (members_data members.now))) }
+    ensures frame { Gives frame_meaning result (frame_by
+        (unwrap_or (value_of (codes "@context") (members_data members.now)) null)
+        (without_key (codes "@context") (members_data members.now))) }
     ensures numbers { IfOk result (λ f. NamesLargerNumbers f.nodes) }
 {
     let context = context_value(alloc, members)?;
@@ -275,9 +291,10 @@ fn frame_by(alloc: Global, members: &[Entry<Json>]) -> Result<Frame, FrameErr>
     }
 }
 
-/// The frame that a JSON value states, with the context that its document repeats. `Ld` names the first error of the
-/// context or the frame, in the order in which the standards try their conditions. A frame of `n` keys nested `d` deep
-/// takes time that grows as `n log n`, and at most as `d * n` where values that stand for null lie inside each other.
+/// The frame that a JSON value states, with the context that its document repeats. `Ld` names the
+/// first error of the context or the frame, in the order in which the standards try their
+/// conditions. A frame of `n` keys nested `d` deep takes time that grows as `n log n`, and at most
+/// as `d * n` where values that stand for null lie inside each other.
 #[tactic(auto, unfolding(def_contexts::specs::Frames::frame_of))]
 pub fn expand_frame(alloc: Global, json: &Json) -> Result<Frame, FrameErr>
     ensures frame { IfOk result (λ f. IsFrameOf (json_data json.now) f) }

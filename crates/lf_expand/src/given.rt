@@ -63,7 +63,8 @@ fn language_under(
     terms: &Terms<'_>,
     term: Option<&TermDef>,
 ) -> Result<Option<Text>, Memory>
-    ensures { IfOk result (λ language. language ≡ language_under terms.now.table.now (option_copied term.entry)) }
+    ensures { IfOk result
+        (λ language. language ≡ language_under terms.now.table.now (option_copied term.entry)) }
 {
     match term {
         Some(term) => match &term.language {
@@ -76,7 +77,8 @@ fn language_under(
 
 // The node that a text names.
 fn reference(alloc: Global, terms: &Terms<'_>, text: &Text, vocab: bool) -> Result<Given, FrameErr>
-    ensures { Gives given_data result (reference_or_refused (node_named terms.now.table.now vocab text.now)) }
+    ensures { Gives given_data result
+        (reference_or_refused (node_named terms.now.table.now vocab text.now)) }
 {
     match node_named(alloc, terms, text, vocab)? {
         Some(node) => Ok(Given::Reference(node)),
@@ -91,7 +93,8 @@ fn text_given(
     term: Option<&TermDef>,
     text: &Text,
 ) -> Result<Given, FrameErr>
-    ensures { Gives given_data result (text_coerced (coercion_of (option_copied term.entry)) terms.now.table.now (option_copied term.entry) text.now) }
+    ensures { Gives given_data result (text_coerced (coercion_of (option_copied term.entry))
+        terms.now.table.now (option_copied term.entry) text.now) }
 {
     match coercion_of(term) {
         Coercion::ToId => reference(alloc, terms, text, false),
@@ -111,7 +114,8 @@ fn text_given(
 
 // What a number or a truth value stands for.
 fn other_given(alloc: Global, term: Option<&TermDef>, scalar: Scalar) -> Result<Given, Memory>
-    ensures { IfOk result (λ g. given_data g ≡ other_coerced (coercion_of (option_copied term.entry)) scalar) }
+    ensures { IfOk result
+        (λ g. given_data g ≡ other_coerced (coercion_of (option_copied term.entry)) scalar) }
 {
     match coercion_of(term) {
         Coercion::ToDatatype(iri) => Ok(Given::Plain {

@@ -123,7 +123,10 @@ pub fn read_flat_key(
     read: &mut Reading,
 ) -> Result<(), FrameErr>
     requires { holding class key ≡ Holding.NoFrame }
-    ensures stated { (sub : Numbered) (reader : Reader) (reverses : ReverseReader) (lists : Lists) → Gives (λ _. reading_of sub read.new lists) result (read_keyword (class_data class) (key_data key) terms.now.table.now (place_data place.now) (json_data value.now) reader reverses (reading_of sub read.old lists)) }
+    ensures stated { (sub : Numbered) (reader : Reader) (reverses : ReverseReader) (lists : Lists) →
+        Gives (λ _. reading_of sub read.new lists) result (read_keyword (class_data class)
+        (key_data key) terms.now.table.now (place_data place.now) (json_data value.now)
+        reader reverses (reading_of sub read.old lists)) }
     ensures same { (bound : ℕ) (lists : Lists) → Told bound read.old lists → Told bound read.new lists }
 {
     match key {
@@ -152,7 +155,9 @@ fn read_default(
     place: &Place<'_>,
     read: &mut Reading,
 ) -> Result<(), FrameErr>
-    ensures stated { (sub : Numbered) (lists : Lists) → Gives (λ _. reading_of sub read.new lists) result (default_read terms.now.table.now (place_data place.now) (json_data value.now) (reading_of sub read.old lists)) }
+    ensures stated { (sub : Numbered) (lists : Lists) →
+        Gives (λ _. reading_of sub read.new lists) result (default_read terms.now.table.now
+        (place_data place.now) (json_data value.now) (reading_of sub read.old lists)) }
     ensures same { (bound : ℕ) (lists : Lists) → Told bound read.old lists → Told bound read.new lists }
 {
     if !place.takes_default() {
@@ -173,7 +178,11 @@ fn read_part(
     read: &mut Reading,
 ) -> Result<(), FrameErr>
     requires { holding class key ≡ Holding.NoFrame }
-    ensures stated { (place : places.Place) (sub : Numbered) (reader : Reader) (reverses : ReverseReader) (lists : Lists) → Gives (λ _. reading_of sub read.new lists) result (read_class_key (class_data class) (key_data key) terms.now.table.now place (json_data value.now) reader reverses (reading_of sub read.old lists)) }
+    ensures stated { (place : places.Place) (sub : Numbered) (reader : Reader) (reverses : ReverseReader)
+        (lists : Lists) →
+        Gives (λ _. reading_of sub read.new lists) result (read_class_key (class_data class)
+        (key_data key) terms.now.table.now place (json_data value.now) reader reverses
+        (reading_of sub read.old lists)) }
     ensures same { (bound : ℕ) (lists : Lists) → Told bound read.old lists → Told bound read.new lists }
 {
     match class {
@@ -192,7 +201,9 @@ fn read_value_part(
     value: &Json,
     read: &mut Reading,
 ) -> Result<(), FrameErr>
-    ensures stated { (sub : Numbered) (lists : Lists) → Gives (λ _. reading_of sub read.new lists) result (read_value_key (key_data key) terms.now.table.now (json_data value.now) (reading_of sub read.old lists)) }
+    ensures stated { (sub : Numbered) (lists : Lists) →
+        Gives (λ _. reading_of sub read.new lists) result (read_value_key (key_data key)
+        terms.now.table.now (json_data value.now) (reading_of sub read.old lists)) }
     ensures same { (bound : ℕ) (lists : Lists) → Told bound read.old lists → Told bound read.new lists }
 {
     match key {
@@ -230,7 +241,10 @@ fn read_node_part(
     read: &mut Reading,
 ) -> Result<(), FrameErr>
     requires { holding MapClass.Node key ≡ Holding.NoFrame }
-    ensures stated { (sub : Numbered) (reader : Reader) (reverses : ReverseReader) (lists : Lists) → Gives (λ _. reading_of sub read.new lists) result (read_node_key (key_data key) terms.now.table.now (json_data value.now) reader reverses (reading_of sub read.old lists)) }
+    ensures stated { (sub : Numbered) (reader : Reader) (reverses : ReverseReader) (lists : Lists) →
+        Gives (λ _. reading_of sub read.new lists) result (read_node_key (key_data key)
+        terms.now.table.now (json_data value.now) reader reverses
+        (reading_of sub read.old lists)) }
     ensures same { (bound : ℕ) (lists : Lists) → Told bound read.old lists → Told bound read.new lists }
 {
     match key {

@@ -1,5 +1,6 @@
-//! Sub-frames (JSON-LD 1.1 Framing, section 4.1: frame objects, value patterns and list patterns). Each function
-//! calls the others on what lies inside a value, so they go as deep as the value is nested.
+//! Sub-frames (JSON-LD 1.1 Framing, section 4.1: frame objects, value patterns and list patterns).
+//! Each function calls the others on what lies inside a value, so they go as deep as the value is
+//! nested.
 ghost use Rattle.std.specs.Prelude.{length};
 ghost use Rattle.std.specs.Option.{option_copied};
 ghost use Rattle.lf_model.specs.JsonBridge.{json_data, members_data};
@@ -28,7 +29,8 @@ use lf_base::{Text, TryCopy};
 use lf_model::{Json, JsonMap, LdError, Scalar, TermDef};
 use std::alloc::Global;
 
-/// A value as a sub-frame at a place, or nothing where it stands for null. An array of one element is that element.
+/// A value as a sub-frame at a place, or nothing where it stands for null. An array of one element
+/// is that element.
 #[cycle(frames)]
 pub fn sub_frame(
     alloc: Global,
@@ -37,7 +39,8 @@ pub fn sub_frame(
     place: &Place<'_>,
     rows: &mut Vec<Row>,
 ) -> Result<Found, FrameErr>
-    ensures { Finds rows.old.items rows.new.items (place_data place.now) result (sub_frame terms.now.table.now (json_data value.now) (place_data place.now)) }
+    ensures { Finds rows.old.items rows.new.items (place_data place.now) result
+        (sub_frame terms.now.table.now (json_data value.now) (place_data place.now)) }
 {
     match value {
         Json::Null => null_at(place),
@@ -64,7 +67,8 @@ pub fn sub_frame(
     }
 }
 
-// A map at a place. The value of `@set` stands for its map, and a reverse property takes no pattern.
+// A map at a place. The value of `@set` stands for its map, and a reverse property takes no
+// pattern.
 #[cycle(frames)]
 fn map_frame(
     alloc: Global,
@@ -73,7 +77,9 @@ fn map_frame(
     place: &Place<'_>,
     rows: &mut Vec<Row>,
 ) -> Result<Found, FrameErr>
-    ensures { Finds rows.old.items rows.new.items (place_data place.now) result (sub_frame terms.now.table.now (object (members_data members.now)) (place_data place.now)) }
+    ensures { Finds rows.old.items rows.new.items (place_data place.now) result
+        (sub_frame terms.now.table.now (object (members_data members.now))
+        (place_data place.now)) }
 {
     if under_language(place.term()) && !are_all_keywords(alloc, terms, members)? {
         return Err(FrameErr::Ld(LdError::InvalidFrame));
@@ -108,7 +114,8 @@ fn set_frame(
     place: &Place<'_>,
     rows: &mut Vec<Row>,
 ) -> Result<Found, FrameErr>
-    ensures { Finds rows.old.items rows.new.items (place_data place.now) result (set_value terms.now.table.now (members_data members.now) (place_data place.now)) }
+    ensures { Finds rows.old.items rows.new.items (place_data place.now) result
+        (set_value terms.now.table.now (members_data members.now) (place_data place.now)) }
 {
     for member in members.as_slice() {
         if means(alloc, terms, &member.key, "@set")? {
@@ -128,7 +135,9 @@ fn keys_frame(
     place: &Place<'_>,
     rows: &mut Vec<Row>,
 ) -> Result<Found, FrameErr>
-    ensures { Finds rows.old.items rows.new.items (place_data place.now) result (map_read (class_data class) (place_data place.now) (read_members terms.now.table.now (members_data members.now) (class_data class) (place_data place.now) unread)) }
+    ensures { Finds rows.old.items rows.new.items (place_data place.now) result
+        (map_read (class_data class) (place_data place.now) (read_members terms.now.table.now
+        (members_data members.now) (class_data class) (place_data place.now) unread)) }
 {
     let mut read = Reading::unread(alloc);
     match read_members(alloc, terms, members, class, place, rows, &mut read) {
@@ -154,7 +163,10 @@ pub fn read_members(
     rows: &mut Vec<Row>,
     read: &mut Reading,
 ) -> Result<(), FrameErr>
-    ensures { (lists : Lists) → Told (length rows.old.items) read.old lists → Reads rows.old.items rows.new.items read.new result (read_members terms.now.table.now (members_data members.now) (class_data class) (place_data place.now) (reading_of (built rows.old.items) read.old lists)) }
+    ensures { (lists : Lists) → Told (length rows.old.items) read.old lists →
+        Reads rows.old.items rows.new.items read.new result (read_members terms.now.table.now
+        (members_data members.now) (class_data class) (place_data place.now)
+        (reading_of (built rows.old.items) read.old lists)) }
 {
     for member in members.as_slice() {
         match read_key(
@@ -186,7 +198,12 @@ pub fn read_key(
     rows: &mut Vec<Row>,
     read: &mut Reading,
 ) -> Result<(), FrameErr>
-    ensures { (lists : Lists) → Told (length rows.old.items) read.old lists → Reads rows.old.items rows.new.items read.new result (read_key (class_data class) (meaning_of terms.now.table.now key.now) terms.now.table.now (place_data place.now) (json_data value.now) (sub_frame terms.now.table.now (json_data value.now)) (reverse_map terms.now.table.now (json_data value.now)) (reading_of (built rows.old.items) read.old lists)) }
+    ensures { (lists : Lists) → Told (length rows.old.items) read.old lists →
+        Reads rows.old.items rows.new.items read.new result (read_key (class_data class)
+        (meaning_of terms.now.table.now key.now) terms.now.table.now (place_data place.now)
+        (json_data value.now) (sub_frame terms.now.table.now (json_data value.now))
+        (reverse_map terms.now.table.now (json_data value.now))
+        (reading_of (built rows.old.items) read.old lists)) }
 {
     match meaning_of(alloc, terms, key)? {
         Meaning::Dropped => Ok(()),
@@ -219,7 +236,10 @@ fn read_property(
     rows: &mut Vec<Row>,
     read: &mut Reading,
 ) -> Result<(), FrameErr>
-    ensures { (lists : Lists) → Told (length rows.old.items) read.old lists → Reads rows.old.items rows.new.items read.new result (read_property iri (option_copied term.entry) (sub_frame terms.now.table.now (json_data value.now)) (reading_of (built rows.old.items) read.old lists)) }
+    ensures { (lists : Lists) → Told (length rows.old.items) read.old lists →
+        Reads rows.old.items rows.new.items read.new result (read_property iri
+        (option_copied term.entry) (sub_frame terms.now.table.now (json_data value.now))
+        (reading_of (built rows.old.items) read.old lists)) }
 {
     if read.has_property(iri.as_str()) {
         return Err(FrameErr::Ld(LdError::InvalidFrame));
@@ -244,7 +264,10 @@ fn read_reverse(
     rows: &mut Vec<Row>,
     read: &mut Reading,
 ) -> Result<(), FrameErr>
-    ensures { (lists : Lists) → Told (length rows.old.items) read.old lists → Reads rows.old.items rows.new.items read.new result (read_reverse iri (sub_frame terms.now.table.now (json_data value.now)) (reading_of (built rows.old.items) read.old lists)) }
+    ensures { (lists : Lists) → Told (length rows.old.items) read.old lists →
+        Reads rows.old.items rows.new.items read.new result (read_reverse iri
+        (sub_frame terms.now.table.now (json_data value.now))
+        (reading_of (built rows.old.items) read.old lists)) }
 {
     if read.has_reverse(iri.as_str()) {
         return Err(FrameErr::Ld(LdError::InvalidFrame));
@@ -273,7 +296,12 @@ fn read_keyword(
     rows: &mut Vec<Row>,
     read: &mut Reading,
 ) -> Result<(), FrameErr>
-    ensures { (lists : Lists) → Told (length rows.old.items) read.old lists → Reads rows.old.items rows.new.items read.new result (read_key (class_data class) (keyword name) terms.now.table.now (place_data place.now) (json_data value.now) (sub_frame terms.now.table.now (json_data value.now)) (reverse_map terms.now.table.now (json_data value.now)) (reading_of (built rows.old.items) read.old lists)) }
+    ensures { (lists : Lists) → Told (length rows.old.items) read.old lists →
+        Reads rows.old.items rows.new.items read.new result (read_key (class_data class)
+        (keyword name) terms.now.table.now (place_data place.now) (json_data value.now)
+        (sub_frame terms.now.table.now (json_data value.now))
+        (reverse_map terms.now.table.now (json_data value.now))
+        (reading_of (built rows.old.items) read.old lists)) }
 {
     if read.has_keyword(name.as_str()) {
         return Err(FrameErr::Ld(LdError::CollidingKeywords));
@@ -295,7 +323,12 @@ fn read_frame_key(
     rows: &mut Vec<Row>,
     read: &mut Reading,
 ) -> Result<(), FrameErr>
-    ensures { (lists : Lists) → Told (length rows.old.items) read.old lists → Reads rows.old.items rows.new.items read.new result (read_keyword (class_data class) (key_data key) terms.now.table.now (place_data place.now) (json_data value.now) (sub_frame terms.now.table.now (json_data value.now)) (reverse_map terms.now.table.now (json_data value.now)) (reading_of (built rows.old.items) read.old lists)) }
+    ensures { (lists : Lists) → Told (length rows.old.items) read.old lists →
+        Reads rows.old.items rows.new.items read.new result (read_keyword (class_data class)
+        (key_data key) terms.now.table.now (place_data place.now) (json_data value.now)
+        (sub_frame terms.now.table.now (json_data value.now))
+        (reverse_map terms.now.table.now (json_data value.now))
+        (reading_of (built rows.old.items) read.old lists)) }
 {
     match held_by(class, key) {
         Holding::GraphFrame => {
@@ -330,7 +363,10 @@ fn read_item(
     rows: &mut Vec<Row>,
     read: &mut Reading,
 ) -> Result<(), FrameErr>
-    ensures { (lists : Lists) → Told (length rows.old.items) read.old lists → Reads rows.old.items rows.new.items read.new result (read_list_key list_key (option_copied term.entry) (sub_frame terms.now.table.now (json_data value.now)) (reading_of (built rows.old.items) read.old lists)) }
+    ensures { (lists : Lists) → Told (length rows.old.items) read.old lists →
+        Reads rows.old.items rows.new.items read.new result (read_list_key list_key
+        (option_copied term.entry) (sub_frame terms.now.table.now (json_data value.now))
+        (reading_of (built rows.old.items) read.old lists)) }
 {
     let place = Place {
         kind: PlaceKind::Item,
@@ -354,7 +390,9 @@ fn read_reverses(
     rows: &mut Vec<Row>,
     read: &mut Reading,
 ) -> Result<(), FrameErr>
-    ensures { (lists : Lists) → Told (length rows.old.items) read.old lists → Reads rows.old.items rows.new.items read.new result (reverse_map terms.now.table.now (json_data value.now) (reading_of (built rows.old.items) read.old lists)) }
+    ensures { (lists : Lists) → Told (length rows.old.items) read.old lists →
+        Reads rows.old.items rows.new.items read.new result (reverse_map terms.now.table.now
+        (json_data value.now) (reading_of (built rows.old.items) read.old lists)) }
 {
     match value {
         Json::Map(members) => read_reverse_members(alloc, terms, members, rows, read),
@@ -375,7 +413,9 @@ fn read_reverse_members(
     rows: &mut Vec<Row>,
     read: &mut Reading,
 ) -> Result<(), FrameErr>
-    ensures { (lists : Lists) → Told (length rows.old.items) read.old lists → Reads rows.old.items rows.new.items read.new result (reverse_members terms.now.table.now (members_data members.now) (reading_of (built rows.old.items) read.old lists)) }
+    ensures { (lists : Lists) → Told (length rows.old.items) read.old lists →
+        Reads rows.old.items rows.new.items read.new result (reverse_members terms.now.table.now
+        (members_data members.now) (reading_of (built rows.old.items) read.old lists)) }
 {
     for member in members.as_slice() {
         match read_reverse_key(alloc, terms, &member.key, &member.value, rows, read) {
@@ -396,7 +436,11 @@ fn read_reverse_key(
     rows: &mut Vec<Row>,
     read: &mut Reading,
 ) -> Result<(), FrameErr>
-    ensures { (lists : Lists) → Told (length rows.old.items) read.old lists → Reads rows.old.items rows.new.items read.new result (read_reverse_key (meaning_of terms.now.table.now key.now) (sub_frame terms.now.table.now (json_data value.now)) (reading_of (built rows.old.items) read.old lists)) }
+    ensures { (lists : Lists) → Told (length rows.old.items) read.old lists →
+        Reads rows.old.items rows.new.items read.new result (read_reverse_key
+        (meaning_of terms.now.table.now key.now)
+        (sub_frame terms.now.table.now (json_data value.now))
+        (reading_of (built rows.old.items) read.old lists)) }
 {
     match meaning_of(alloc, terms, key)? {
         Meaning::Dropped => Ok(()),

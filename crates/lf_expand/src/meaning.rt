@@ -10,7 +10,8 @@ use lf_context::{is_absolute, is_keyword};
 use lf_model::TermDef;
 use std::alloc::Global;
 
-/// What a key is: it is dropped, or it is a keyword, a property with its term, or a reverse property.
+/// What a key is: it is dropped, or it is a keyword, a property with its term, or a reverse
+/// property.
 #[derive(Drop)]
 pub enum Meaning<'a> {
     Dropped,

@@ -1,4 +1,5 @@
-//! What a frame asks of a node's id and types (JSON-LD 1.1 Framing, section 4.1 and section 5.3, step 1).
+//! What a frame asks of a node's id and types (JSON-LD 1.1 Framing, section 4.1 and section 5.3,
+//! step 1).
 ghost use Rattle.std.specs.Prelude.{◌≡◌, IfOk, [], true};
 ghost use Rattle.std.specs.Option.{option_copied};
 ghost use Rattle.lf_model.specs.JsonBridge.{json_data, items_data, members_data};
@@ -109,7 +110,8 @@ fn nodes_of_items(
     items: &[Json],
     vocab: bool,
 ) -> Result<Option<TermList>, Memory>
-    ensures { IfOk result (λ nodes. nodes ≡ nodes_of_items terms.now.table.now vocab (items_data items.now)) }
+    ensures { IfOk result
+        (λ nodes. nodes ≡ nodes_of_items terms.now.table.now vocab (items_data items.now)) }
 {
     let mut nodes = ListOf::new(alloc);
     for item in items {
@@ -166,7 +168,8 @@ fn node_alone(
     name: &Text,
     vocab: bool,
 ) -> Result<Option<TermList>, Memory>
-    ensures { IfOk result (λ nodes. nodes ≡ cons_node (node_named terms.now.table.now vocab name.now) (Some [])) }
+    ensures { IfOk result
+        (λ nodes. nodes ≡ cons_node (node_named terms.now.table.now vocab name.now) (Some [])) }
 {
     match node_named(alloc, terms, name, vocab)? {
         Some(node) => {
@@ -217,7 +220,8 @@ pub fn type_test_of(alloc: Global, terms: &Terms<'_>, value: &Json) -> Result<Ty
 
 // Types that a node must have.
 fn types_asked(alloc: Global, terms: &Terms<'_>, value: &Json) -> Result<TypeTest, FrameErr>
-    ensures { Gives (λ test. test) result (type_list (nodes_of terms.now.table.now true (json_data value.now))) }
+    ensures { Gives (λ test. test) result
+        (type_list (nodes_of terms.now.table.now true (json_data value.now))) }
 {
     match nodes_of(alloc, terms, value, true)? {
         Some(types) => Ok(TypeTest::OneOf(types)),
@@ -231,7 +235,8 @@ fn types_by_default(
     terms: &Terms<'_>,
     members: &[Entry<Json>],
 ) -> Result<TypeTest, FrameErr>
-    ensures { Gives (λ test. test) result (types_given terms.now.table.now (object (members_data members.now))) }
+    ensures { Gives (λ test. test) result
+        (types_given terms.now.table.now (object (members_data members.now))) }
 {
     match members {
         [] => Err(FrameErr::Ld(LdError::InvalidTypeValue)),
@@ -247,7 +252,8 @@ fn types_of_member(
     terms: &Terms<'_>,
     only: &Entry<Json>,
 ) -> Result<TypeTest, FrameErr>
-    ensures { Gives (λ test. test) result (types_given terms.now.table.now (object (member only.now.key (json_data only.now.value) no_members))) }
+    ensures { Gives (λ test. test) result (types_given terms.now.table.now
+        (object (member only.now.key (json_data only.now.value) no_members))) }
 {
     if only.key.as_str() == "@default" {
         match nodes_of(alloc, terms, &only.value, true)? {

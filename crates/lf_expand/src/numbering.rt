@@ -1,4 +1,5 @@
-//! The maps of a frame in their last order: the top map first, each with a smaller number than the maps that it holds.
+//! The maps of a frame in their last order: the top map first, each with a smaller number than the
+//! maps that it holds.
 ghost use Rattle.std.specs.Prelude.{◌≡◌, map, reverse, IfOk, List, ℕ};
 ghost use Rattle.std.specs.Option.{option_map};
 ghost use Rattle.lf_expand.specs.Numbers.{turned, turned_props, turned_reverses, turned_kind, turned_row};

@@ -82,7 +82,8 @@ fn scalars_of_items(
     part: Part,
     items: &[Json],
 ) -> Result<Option<ScalarList>, Memory>
-    ensures { IfOk result (λ scalars. scalars ≡ scalars_of_items (read_as terms.now.table.now part) (items_data items.now)) }
+    ensures { IfOk result (λ scalars.
+        scalars ≡ scalars_of_items (read_as terms.now.table.now part) (items_data items.now)) }
 {
     let mut scalars = ListOf::new(alloc);
     for item in items {
@@ -101,7 +102,8 @@ fn scalars_of(
     part: Part,
     value: &Json,
 ) -> Result<Option<ScalarList>, Memory>
-    ensures { IfOk result (λ scalars. scalars ≡ scalars_of (read_as terms.now.table.now part) (json_data value.now)) }
+    ensures { IfOk result (λ scalars.
+        scalars ≡ scalars_of (read_as terms.now.table.now part) (json_data value.now)) }
 {
     match value {
         Json::List(items) => scalars_of_items(alloc, terms, part, items.as_slice()),
@@ -120,7 +122,9 @@ fn scalar_alone(
     part: Part,
     value: &Json,
 ) -> Result<Option<ScalarList>, Memory>
-    ensures { IfOk result (λ scalars. scalars ≡ cons_scalar (read_as terms.now.table.now part (json_data value.now)) (Some [])) }
+    ensures { IfOk result (λ scalars.
+        scalars
+        ≡ cons_scalar (read_as terms.now.table.now part (json_data value.now)) (Some [])) }
 {
     match read_as(alloc, terms, part, value)? {
         Some(scalar) => Ok(Some(one_scalar(alloc, scalar)?)),
@@ -143,7 +147,8 @@ pub fn part_of(
     part: Part,
     value: &Json,
 ) -> Result<PartTest, FrameErr>
-    ensures { Gives (λ test. test) result (part_of (read_as terms.now.table.now part) (json_data value.now)) }
+    ensures { Gives (λ test. test) result
+        (part_of (read_as terms.now.table.now part) (json_data value.now)) }
 {
     if is_any(value) {
         return Ok(PartTest::Any);

@@ -6,8 +6,8 @@ ghost use Rattle.lf_expand.specs.PlaceData.{place_of, place_data, is_listed, is_
 
 use lf_model::{Container, LdError, TermDef};
 
-/// A sub-frame is the value of a property, the item of a list pattern, or the value of `@graph` or of a reverse
-/// property; the top frame is none.
+/// A sub-frame is the value of a property, the item of a list pattern, or the value of `@graph` or
+/// of a reverse property; the top frame is none.
 #[derive(Clone, Copy, Debug)]
 pub enum PlaceKind {
     Property,

@@ -1,4 +1,5 @@
-//! The maps of a frame while it is read. Each stands behind the maps that it holds, and names them by their places.
+//! The maps of a frame while it is read. Each stands behind the maps that it holds, and names them
+//! by their places.
 ghost use Rattle.std.specs.Prelude.{◌≡◌, ◌&&◌, ◌∷◌, ◌++◌, [], length, IfOk, OnOk};
 ghost use Rattle.def_nested.specs.Nested.{plain};
 ghost use Rattle.def_contexts.specs.Places.{placed};
@@ -112,15 +113,18 @@ fn wrap_row(alloc: Global, item: u32, rows: &mut Vec<Row>) -> Result<u32, Memory
     Ok(number)
 }
 
-/// Puts a map behind the others as it stands at a place, and gives its number. Under a term with the container
-/// `@list` it is the item of a list pattern, unless it is wild or a list pattern.
+/// Puts a map behind the others as it stands at a place, and gives its number. Under a term with
+/// the container `@list` it is the item of a list pattern, unless it is wild or a list pattern.
 pub fn place_row(
     alloc: Global,
     place: &Place<'_>,
     row: Row,
     rows: &mut Vec<Row>,
 ) -> Result<u32, Memory>
-    ensures { RowWithin (length rows.old.items) row → IfOk result (λ number. IsPlaced rows.old.items rows.new.items number (placed (place_data place.now) (seen_row (built rows.old.items) row))) }
+    ensures { RowWithin (length rows.old.items) row →
+        IfOk result (λ number.
+        IsPlaced rows.old.items rows.new.items number
+        (placed (place_data place.now) (seen_row (built rows.old.items) row))) }
 {
     let wrapped = is_wrapped(place, &row.kind);
     let number = push_row(rows, row)?;

@@ -21,7 +21,8 @@ use std::alloc::Global;
 
 /// Null drops a property, and gives no item.
 pub fn null_at(place: &Place<'_>) -> Result<Found, FrameErr>
-    ensures { (rows : List Row) → Finds rows rows (place_data place.now) result (null_at (place_data place.now)) }
+    ensures { (rows : List Row) →
+        Finds rows rows (place_data place.now) result (null_at (place_data place.now)) }
 {
     match place.kind {
         PlaceKind::Property => Ok(Found::Dropped),
@@ -34,7 +35,8 @@ pub fn null_at(place: &Place<'_>) -> Result<Found, FrameErr>
 
 /// The empty array is match-none for a property, and the empty map elsewhere.
 pub fn empty_at(alloc: Global, place: &Place<'_>, rows: &mut Vec<Row>) -> Result<Found, FrameErr>
-    ensures { Finds rows.old.items rows.new.items (place_data place.now) result (Ok (Some (empty_at (place_data place.now)))) }
+    ensures { Finds rows.old.items rows.new.items (place_data place.now) result
+        (Ok (Some (empty_at (place_data place.now)))) }
 {
     match place.kind {
         PlaceKind::Property => Ok(Found::MatchNone),
@@ -100,7 +102,9 @@ fn scalar_under(
     place: &Place<'_>,
     rows: &mut Vec<Row>,
 ) -> Result<Found, FrameErr>
-    ensures { Finds rows.old.items rows.new.items (place_data place.now) result (scalar_under terms.now.table.now (term_at (place_data place.now)) scalar (place_data place.now)) }
+    ensures { Finds rows.old.items rows.new.items (place_data place.now) result
+        (scalar_under terms.now.table.now (term_at (place_data place.now)) scalar
+        (place_data place.now)) }
 {
     let given = value_given(alloc, terms, place.term(), scalar)?;
     let row = given_row(alloc, given)?;
@@ -108,7 +112,8 @@ fn scalar_under(
     Ok(Found::Numbered(number))
 }
 
-/// A text, number or truth value as a sub-frame: a node frame of one id, or a value pattern of one value.
+/// A text, number or truth value as a sub-frame: a node frame of one id, or a value pattern of one
+/// value.
 pub fn scalar_at(
     alloc: Global,
     terms: &Terms<'_>,
@@ -116,7 +121,8 @@ pub fn scalar_at(
     place: &Place<'_>,
     rows: &mut Vec<Row>,
 ) -> Result<Found, FrameErr>
-    ensures { Finds rows.old.items rows.new.items (place_data place.now) result (scalar_at terms.now.table.now scalar (place_data place.now)) }
+    ensures { Finds rows.old.items rows.new.items (place_data place.now) result
+        (scalar_at terms.now.table.now scalar (place_data place.now)) }
 {
     match place.kind {
         PlaceKind::Property => scalar_under(alloc, terms, scalar, place, rows),

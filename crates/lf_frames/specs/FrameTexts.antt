@@ -1,5 +1,6 @@
--- What a frame's text comes to: the frame that it means, or why it is none. The conditions stand in the order in which they
--- are tried: UTF-8 and JSON (RFC 8259), numbers, the context and the frame (JSON-LD 1.1 Framing, section 4.1).
+-- What a frame's text comes to: the frame that it means, or why it is none. The conditions stand in
+-- the order in which they are tried: UTF-8 and JSON (RFC 8259), numbers, the context and the frame
+-- (JSON-LD 1.1 Framing, section 4.1).
 use Rattle.std.specs.Prelude.{List, ℕ, Bool, true, false, Option, Some, None, Result, Ok, Err}
 use Rattle.std.specs.Str.{is_utf8}
 use Rattle.serde_json.specs.Data.{Data}
@@ -50,7 +51,8 @@ is_accepted (accepted meaning) = true
 abbrev pub is_frame : List ℕ → Bool
 is_frame text = is_accepted (frame_text text)
 
--- the document of what a text comes to; a text that is no frame is never registered, and has the name of its error
+-- the document of what a text comes to; a text that is no frame is never registered, and has the
+-- name of its error
 abbrev pub document_of : FrameText → List Quad → Doc
 document_of (accepted meaning) dataset = scratch_of meaning dataset
 document_of (refused error) dataset = doc.Refused error

@@ -19,7 +19,8 @@ pub record Means (text : List ℕ) (meaning : FrameMeaning) : Type 0 where
 
 -- a text is accepted exactly where it states a value that means a frame
 abbrev pub AcceptsFrames : Type 0
-AcceptsFrames = (text : List ℕ) (meaning : FrameMeaning) → (frame_text text ≡ accepted meaning) ↔ Means text meaning
+AcceptsFrames = (text : List ℕ) (meaning : FrameMeaning) →
+    (frame_text text ≡ accepted meaning) ↔ Means text meaning
 
 -- its document is the one computed from scratch for that value
 abbrev pub DocumentsAreScratch : Type 0
@@ -30,5 +31,6 @@ DocumentsAreScratch =
 -- a frame that was read from the text has the document of the text
 abbrev pub ReadFramesGiveDocuments : Type 0
 ReadFramesGiveDocuments =
-    (text : List ℕ) (frame : Frame) (dataset : List Quad) → frame_text text ≡ accepted (frame_meaning frame)
+    (text : List ℕ) (frame : Frame) (dataset : List Quad) →
+    frame_text text ≡ accepted (frame_meaning frame)
     → scratch_frame frame dataset ≡ document text dataset

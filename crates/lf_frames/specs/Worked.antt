@@ -13,7 +13,8 @@ use Rattle.lf_frames.specs.FrameTexts.{not_json, refused, frame_text, is_frame}
 
 -- a proof that unfolds this computes what a text comes to
 unfoldable pub texts_open : Unit {0}
-unfolding rows_open encode_utf8 is_utf8 chars value punctuate lex content word after_number number_of frame_text
+unfolding rows_open encode_utf8 is_utf8 chars value punctuate lex content word after_number
+    number_of frame_text
 texts_open = tt
 
 pub no_json : frame_text (codes "{") ≡ not_json

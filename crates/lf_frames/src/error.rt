@@ -9,7 +9,8 @@ pub enum FrameTextErr {
     /// It isn't UTF-8, or no JSON text (RFC 8259), or nested deeper than 127 levels.
     #[error("not JSON")]
     NotJson,
-    /// A number that is no whole number from -2^63 to 2^64 - 1, by the JSON pointer of the first (RFC 6901).
+    /// A number that is no whole number from -2^63 to 2^64 - 1, by the JSON pointer of the first
+    /// (RFC 6901).
     #[error("fractional number at {}", .path.as_str())]
     Fractional { path: Text },
     /// The first error of the context or of the frame (JSON-LD 1.1 Framing, section 5.3).

@@ -11,7 +11,8 @@ count_after_body count (Err CutShort) = count
 count_after_body count (Err ReadFault) = risen count
 count_after_body count (Err Memory) = count
 
--- the answer for a body of this length, and the bytes that it leaves: those that stand first, or all where they are too few
+-- the answer for a body of this length, and the bytes that it leaves: those that stand first, or
+-- all where they are too few
 abbrev pub ReadsBody : {A : Type 0} → ℕ → List ℕ → List ℕ → Result A BodyErr → Type 0
 ReadsBody count stream body (Ok _) = (count ≤ length stream) × (body ≡ take count stream)
 ReadsBody count stream body (Err CutShort) = (length stream < count) × (body ≡ stream)

@@ -1,4 +1,5 @@
--- The header lines of a head (RFC 9110, section 5), as pairs of a name and a value without the blanks around it.
+-- The header lines of a head (RFC 9110, section 5), as pairs of a name and a value without the
+-- blanks around it.
 use Rattle.std.specs.Prelude.{List, [], ◌∷◌, ℕ, nat_eq, nat_le, Bool, ◌&&◌, Option, Some, None, map, length, if◌then◌else◌, max}
 use Rattle.std.specs.List.{list_all, list_any, slice_split}
 use Rattle.std.specs.Char.{to_ascii_lowercase, is_ascii_digit}
@@ -18,7 +19,8 @@ same_name written name = pointwise nat_eq (lower written) (lower name)
 -- the values of the lines of this name, in order
 abbrev pub values : List ℕ → List (List ℕ × List ℕ) → List (List ℕ)
 values name [] = []
-values name (line ∷ lines) = if same_name line.0 name then line.1 ∷ values name lines else values name lines
+values name (line ∷ lines) =
+    if same_name line.0 name then line.1 ∷ values name lines else values name lines
 
 -- the most digits of a number, so that it is below 2^63
 abbrev pub most_digits : ℕ
@@ -44,6 +46,8 @@ abbrev pub greatest : List (List ℕ) → Option ℕ
 greatest [] = None
 greatest (value ∷ more) = greater (number value) (greatest more)
 
--- a comma-separated list has the word, compared without case and without the blanks around it (RFC 9110, section 5.6.1)
+-- a comma-separated list has the word, compared without case and without the blanks around it (RFC
+-- 9110, section 5.6.1)
 abbrev pub has_word : List ℕ → List ℕ → Bool
-has_word word value = list_any (λ part. same_name (trim_ows part) word) (slice_split (λ b. nat_eq b ch.comma) value)
+has_word word value =
+    list_any (λ part. same_name (trim_ows part) word) (slice_split (λ b. nat_eq b ch.comma) value)

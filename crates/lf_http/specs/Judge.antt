@@ -50,7 +50,12 @@ pub record Request : Type 0 where
 
 abbrev pub request_of : RequestHead → Request
 request_of h =
-    record { method = h.method; target = h.target; minor = h.minor; lines = map name_and_value h.fields }
+    record {
+      method = h.method;
+      target = h.target;
+      minor = h.minor;
+      lines = map name_and_value h.fields;
+    }
 
 -- the same parts, where spans of a buffer cover them
 abbrev pub request_at : List ℕ → RequestSpans → List HeaderSpan → Request
@@ -66,8 +71,8 @@ request_at buf spans lines =
 abbrev pub line_values : Request → List ℕ → List (List ℕ)
 line_values request name = values name request.lines
 
--- an HTTP/1.1 head without exactly one `Host` line (RFC 9112, section 3.2), more than one `Content-Length` line, or one
--- whose value isn't 1 to 18 decimal digits
+-- an HTTP/1.1 head without exactly one `Host` line (RFC 9112, section 3.2), more than one
+-- `Content-Length` line, or one whose value isn't 1 to 18 decimal digits
 abbrev pub is_bad : Request → Bool
 is_bad request =
     (nat_eq request.minor 1 && not (nat_eq (length (line_values request (codes "host"))) 1))
@@ -104,7 +109,8 @@ has_line request name = nat_lt 0 (length (line_values request name))
 abbrev pub needs_length : Request → Bool
 needs_length request =
     has_line request (codes "transfer-encoding")
-    || (is_none (told_length request) && has_body (method_of request.method) (target_of request.target))
+    || (is_none (told_length request)
+    && has_body (method_of request.method) (target_of request.target))
 
 -- what an accepted head says
 abbrev pub head_of : Request → Head
@@ -114,12 +120,16 @@ head_of request =
       target = target_of request.target;
       length = unwrap_or (told_length request) 0;
       expects = false;
-      plain = list_all (λ value. is_text value (codes "identity")) (line_values request (codes "content-encoding"));
-      close = nat_eq request.minor 0 || list_any (has_word (codes "close")) (line_values request (codes "connection"));
+      plain = list_all (λ value. is_text value (codes "identity"))
+          (line_values request (codes "content-encoding"));
+      close = nat_eq request.minor 0
+          || list_any (has_word (codes "close")) (line_values request (codes "connection"));
       seen = greatest (line_values request (codes "ld-seen"));
       bad_seen = not (list_all is_number (line_values request (codes "ld-seen")));
-      now = list_any (λ value. is_text value (codes "now")) (line_values request (codes "ld-refresh"));
-      bad_refresh = not (list_all (λ value. is_text value (codes "now")) (line_values request (codes "ld-refresh")));
+      now = list_any (λ value. is_text value (codes "now"))
+          (line_values request (codes "ld-refresh"));
+      bad_refresh = not (list_all (λ value. is_text value (codes "now"))
+          (line_values request (codes "ld-refresh")));
     }
 
 -- the longest body in bytes

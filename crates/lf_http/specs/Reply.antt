@@ -34,7 +34,8 @@ crlf = ch.carriage_return ∷ ch.line_feed ∷ []
 
 -- the status line (RFC 9112, section 4)
 unfoldable pub status_text : ℕ → List ℕ
-status_text status = codes "HTTP/1.1 " ++ decimal status ++ ch.space ∷ unwrap_or (reason status) [] ++ crlf
+status_text status =
+    codes "HTTP/1.1 " ++ decimal status ++ ch.space ∷ unwrap_or (reason status) [] ++ crlf
 
 -- `Content-Type` (RFC 9110, section 8.3): a document is JSON-LD, all else is JSON
 unfoldable pub media_text : Bool → List ℕ

@@ -37,10 +37,10 @@ fn keep_name(name: &mut String, target: &[u8])
 /// Reads the next head, and takes no memory (RFC 9112, section 2.2).
 ///
 /// The bytes are parsed after every piece that comes, so that bytes that no head continues are
-/// refused at once. A head costs its bytes for each of its pieces, which are of at most 4,096 bytes:
-/// for one that comes whole the time is linear in its length, for one of 16,384 bytes that comes
-/// byte by byte some 134 million steps. The bytes behind the head, which are at most one piece, are
-/// moved to the front.
+/// refused at once. A head costs its bytes for each of its pieces, which are of at most 4,096
+/// bytes: for one that comes whole the time is linear in its length, for one of 16,384 bytes that
+/// comes byte by byte some 134 million steps. The bytes behind the head, which are at most one
+/// piece, are moved to the front.
 pub fn read_head<S: Source>(source: &mut S, buffers: &mut Buffers) -> Result<Option<Head>, HeadErr>
     // An accepted head, with the empty lines before it, stood first in the stream, and is gone from
     // it.

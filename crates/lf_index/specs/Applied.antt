@@ -20,5 +20,6 @@ pub record IsApplied (dataset : List Quad) (lines : List Signed) (made : List Qu
 -- how many quads there are and there would be, where these are more than a version may have
 abbrev pub IsRefused : List Quad → List Signed → ApplyErr → Type 0
 IsRefused dataset lines (TooManyQuads have would) =
-    (most_quads < length (after dataset lines)) × (have ≡ length dataset) × (would ≡ length (after dataset lines))
+    (most_quads < length (after dataset lines)) × (have ≡ length dataset)
+    × (would ≡ length (after dataset lines))
 IsRefused dataset lines Memory = ⊤

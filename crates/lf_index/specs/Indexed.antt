@@ -20,7 +20,8 @@ abbrev pub quads_of : SetOf Quad → List Quad
 quads_of subjects = dataset_of (keys subjects)
 
 -- each order has the same quads, the names are the labels of the quads, and the quads are counted
-pub record IsIndexed (subjects objects graphs : SetOf Quad) (names : SetOf Term) (count : ℕ) : Type 0 where
+pub record IsIndexed (subjects objects graphs : SetOf Quad) (names : SetOf Term) (count : ℕ) :
+    Type 0 where
   pub objects_alike : (q : Quad) → holds (keys objects) q ≡ holds (keys subjects) q
   pub graphs_alike : (q : Quad) → holds (keys graphs) q ≡ holds (keys subjects) q
   pub names_told : (t : Term) → has term_eq (keys names) t ≡ named (keys subjects) t
@@ -34,7 +35,8 @@ with_label (Some name) names = put_pair term_order name tt names
 -- the names without a label that no quad has any more
 abbrev pub without_label : Option Term → List Quad → SetOf Term → SetOf Term
 without_label None quads names = names
-without_label (Some name) quads names = if named quads name then names else without_key term_order name names
+without_label (Some name) quads names =
+    if named quads name then names else without_key term_order name names
 
 -- the names that belong to a graph: the default graph has all of them
 abbrev pub names_for : GraphRef → List Term → List Term

@@ -9,10 +9,12 @@ abbrev pub least : Term
 least = Iri []
 
 abbrev pub lowest_subject : Term → Option Term → Quad
-lowest_subject subject label = record { subject = subject; predicate = least; object = least; graph = label }
+lowest_subject subject label =
+    record { subject = subject; predicate = least; object = least; graph = label }
 
 abbrev pub lowest_object : Term → Term → Option Term → Quad
-lowest_object object predicate label = record { subject = least; predicate = predicate; object = object; graph = label }
+lowest_object object predicate label =
+    record { subject = least; predicate = predicate; object = object; graph = label }
 
 abbrev pub lowest_graph : Option Term → Quad
 lowest_graph label = record { subject = least; predicate = least; object = least; graph = label }

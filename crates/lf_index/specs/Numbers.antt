@@ -1,4 +1,5 @@
--- A number of a term's text. Terms are put in order by it first, so that most comparisons read two numbers and no text.
+-- A number of a term's text. Terms are put in order by it first, so that most comparisons read two
+-- numbers and no text.
 use Rattle.std.specs.Prelude.{List, [], ◌∷◌, ℕ, ◌+◌, ◌*◌, ◌%◌}
 use Rattle.lf_rdf.specs.declared.term.Term.{Term}
 use Rattle.lf_rdf.specs.declared.term.Term.TheVariants.{Iri, Blank, Literal}

@@ -1,4 +1,5 @@
--- The orders in which the quads of a version are kept. They tell any two quads apart; which order it is, no answer shows.
+-- The orders in which the quads of a version are kept. They tell any two quads apart; which order
+-- it is, no answer shows.
 use Rattle.std.specs.Prelude.{Option}
 use Rattle.std.specs.declared.cmp.Ordering.{Ordering}
 use Rattle.std.specs.Option.{option_cmp}

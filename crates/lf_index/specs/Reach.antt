@@ -21,8 +21,10 @@ label_in graph.Merged = None
 abbrev pub reaches : Question → Quad → Bool
 reaches (ask.Out g subject) q = lies_in g q && term_eq q.subject subject
 reaches (ask.OutAny subject) q = term_eq q.subject subject
-reaches (ask.Inward g predicate object) q = lies_in g q && (term_eq q.predicate predicate && term_eq q.object object)
-reaches (ask.InwardAny predicate object) q = term_eq q.predicate predicate && term_eq q.object object
+reaches (ask.Inward g predicate object) q =
+    lies_in g q && (term_eq q.predicate predicate && term_eq q.object object)
+reaches (ask.InwardAny predicate object) q =
+    term_eq q.predicate predicate && term_eq q.object object
 reaches (ask.Uses object) q = is_use object q
 reaches (ask.Named name) q = lies_in (graph.Named name) q
 reaches (ask.Members g) q = lies_in g q

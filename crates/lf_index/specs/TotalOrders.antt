@@ -11,7 +11,8 @@ use Rattle.lf_index.specs.Numbers.{number_of}
 use Rattle.lf_index.specs.Orders.{term_order, label_order, subjects, predicates, objects, graphs, kinds, subject_order, object_order, graph_order}
 
 pub term_total : IsTotalOrder term_order
-term_total = then_total (on_total number_of nat_cmp_total) (on_total term_parts (lists_total nat_list_cmp_total))
+term_total = then_total (on_total number_of nat_cmp_total)
+    (on_total term_parts (lists_total nat_list_cmp_total))
 
 pub label_total : IsTotalOrder label_order
 label_total = options_total term_total
@@ -32,13 +33,18 @@ pub kinds_total : IsTotalOrder kinds
 kinds_total = on_total tells_type bool_cmp_total
 
 pub subject_total : IsTotalOrder subject_order
-subject_total = then_total (then_total (then_total subjects_total graphs_total) predicates_total) objects_total
+subject_total =
+    then_total (then_total (then_total subjects_total graphs_total) predicates_total) objects_total
 
 pub object_total : IsTotalOrder object_order
-object_total = then_total (then_total (then_total (then_total objects_total kinds_total) predicates_total) graphs_total) subjects_total
+object_total =
+    then_total
+    (then_total (then_total (then_total objects_total kinds_total) predicates_total) graphs_total)
+    subjects_total
 
 pub graph_total : IsTotalOrder graph_order
-graph_total = then_total (then_total (then_total graphs_total subjects_total) predicates_total) objects_total
+graph_total =
+    then_total (then_total (then_total graphs_total subjects_total) predicates_total) objects_total
 
 -- values that an order doesn't tell apart are equal
 

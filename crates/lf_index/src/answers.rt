@@ -29,8 +29,8 @@ use lf_rdf::{Answer, GraphRef, QuadList, Question, Term, TermList};
 use std::alloc::Global;
 
 impl Index {
-    /// The answer to a question. It takes the time of the answer: n log n comparisons for n quads or terms, and some log n of all
-    /// quads to find the first.
+    /// The answer to a question. It takes the time of the answer: n log n comparisons for n quads
+    /// or terms, and some log n of all quads to find the first.
     pub(crate) fn answer(&self, alloc: Global, question: &Question) -> Result<Answer, Memory>
         requires { IsTrue (asks_one_graph question.now) }
         ensures { IfOk result (λ given. given ≡ answer self.now question.now) }
@@ -93,7 +93,10 @@ fn quads_of_subject(
     subject: &Term,
     label: Option<&Term>,
 ) -> Result<QuadList, Memory>
-    ensures found { IfOk result (λ quads. quads ≡ dataset_of (reached question.now (keys (pairs_from subject_order (lowest_subject subject.now (option_copied label.entry)) by_subject.now)))) }
+    ensures found { IfOk result (λ quads.
+        quads
+        ≡ dataset_of (reached question.now (keys (pairs_from subject_order
+        (lowest_subject subject.now (option_copied label.entry)) by_subject.now)))) }
     ensures order { Ascends subject_order by_subject.now }
 {
     by_subject.ascends();
@@ -113,7 +116,11 @@ fn quads_of_object(
     predicate: Shared,
     label: Option<&Term>,
 ) -> Result<QuadList, Memory>
-    ensures found { IfOk result (λ quads. quads ≡ dataset_of (reached question.now (keys (pairs_from object_order (lowest_object object.now predicate (option_copied label.entry)) by_object.now)))) }
+    ensures found { IfOk result (λ quads.
+        quads
+        ≡ dataset_of (reached question.now (keys (pairs_from object_order
+        (lowest_object object.now predicate (option_copied label.entry))
+        by_object.now)))) }
     ensures order { Ascends object_order by_object.now }
 {
     by_object.ascends();
@@ -129,7 +136,11 @@ fn members_of(
     question: &Question,
     graph: &GraphRef,
 ) -> Result<TermList, Memory>
-    ensures found { IfOk result (λ terms. terms ≡ set_of id_cmp (nodes_reached question.now (keys (pairs_from graph_order (lowest_graph (label_in graph.now)) by_graph.now)) ++ names_for graph.now (keys names.now))) }
+    ensures found { IfOk result (λ terms.
+        terms
+        ≡ set_of id_cmp (nodes_reached question.now
+        (keys (pairs_from graph_order (lowest_graph (label_in graph.now)) by_graph.now))
+        ++ names_for graph.now (keys names.now))) }
     ensures order { Ascends graph_order by_graph.now }
 {
     by_graph.ascends();

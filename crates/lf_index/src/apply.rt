@@ -19,8 +19,9 @@ const MOST_QUADS: u64 = 400_000;
 impl Index {
     /// The quads after a patch. This index stays.
     ///
-    /// Each line that changes something costs some log n comparisons in each of three orders for n quads, and copies three pages
-    /// there. Where there are no quads yet, the orders are sorted and built at once.
+    /// Each line that changes something costs some log n comparisons in each of three orders for n
+    /// quads, and copies three pages there. Where there are no quads yet, the orders are sorted and
+    /// built at once.
     #[tactic(auto, unfolding(def_histories::specs::Legal::most_quads))]
     pub fn apply(&self, alloc: Global, patch: &Patch) -> Result<Index, ApplyErr>
         ensures applied { IfOk result (IsApplied self.now patch.now.lines) }
@@ -62,7 +63,8 @@ impl Index {
 
     // The quads without those that lines delete; none where no line deletes a quad that is there.
     fn without_deleted(&self, alloc: Global, lines: &[Signed]) -> Result<Option<Index>, Memory>
-        ensures { IfOk result (λ made. latest made self.now ≡ without quad_eq self.now (deletions lines.now)) }
+        ensures { IfOk result
+            (λ made. latest made self.now ≡ without quad_eq self.now (deletions lines.now)) }
     {
         let mut made = None;
         for line in lines {
@@ -78,7 +80,10 @@ impl Index {
         made: Option<Index>,
         line: &Signed,
     ) -> Result<Option<Index>, Memory>
-        ensures { IfOk result (λ next. latest next self.now ≡ (if line.now.add then latest made self.now else without quad_eq (latest made self.now) (line.now.quad ∷ []))) }
+        ensures { IfOk result (λ next.
+            latest next self.now
+            ≡ (if line.now.add then latest made self.now
+            else without quad_eq (latest made self.now) (line.now.quad ∷ []))) }
     {
         if line.add {
             return Ok(made);
@@ -96,7 +101,9 @@ impl Index {
         fewer: Option<Index>,
         lines: &[Signed],
     ) -> Result<Option<Index>, Memory>
-        ensures { IfOk result (λ made. latest made self.now ≡ put_all quad_cmp (latest fewer self.now) (additions lines.now)) }
+        ensures { IfOk result (λ made.
+            latest made self.now
+            ≡ put_all quad_cmp (latest fewer self.now) (additions lines.now)) }
     {
         let mut made = fewer;
         for line in lines {
@@ -112,7 +119,10 @@ impl Index {
         made: Option<Index>,
         line: &Signed,
     ) -> Result<Option<Index>, Memory>
-        ensures { IfOk result (λ next. latest next self.now ≡ (if line.now.add then with_quad line.now.quad (latest made self.now) else latest made self.now)) }
+        ensures { IfOk result (λ next.
+            latest next self.now
+            ≡ (if line.now.add then with_quad line.now.quad (latest made self.now)
+            else latest made self.now)) }
     {
         if !line.add {
             return Ok(made);

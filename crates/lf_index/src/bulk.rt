@@ -77,17 +77,20 @@ fn keys_by_object(alloc: Global, subjects: &[BySubject]) -> Result<Vec<ByObject>
     Ok(keys)
 }
 
-// Keys that come in order of subjects, nearly in order of objects. A sort reads the texts of all that it compares whose objects
-// have one number, and many quads may have one object; behind this one it only goes over the keys.
+// Keys that come in order of subjects, nearly in order of objects. A sort reads the texts of all
+// that it compares whose objects have one number, and many quads may have one object; behind this
+// one it only goes over the keys.
 fn by_numbers(keys: Vec<ByObject>) -> Result<Vec<ByObject>, Memory>
-    ensures { IfOk result (λ made. (test : Quad → Bool) → list_any test made.items ≡ list_any test keys.items) }
+    ensures { IfOk result
+        (λ made. (test : Quad → Bool) → list_any test made.items ≡ list_any test keys.items) }
 {
     let mut made = keys;
     made.sort_by(|one, two| one.order_by_numbers(two))?;
     Ok(made)
 }
 
-// Keys that come in order of subjects. In each graph they stand so already, and a sort finds this out by going over them.
+// Keys that come in order of subjects. In each graph they stand so already, and a sort finds this
+// out by going over them.
 fn keys_by_graph(alloc: Global, subjects: &[BySubject]) -> Result<Vec<ByGraph>, Memory>
     ensures { IfOk result (λ keys. keys.items ≡ subjects.now) }
 {
@@ -100,7 +103,8 @@ fn keys_by_graph(alloc: Global, subjects: &[BySubject]) -> Result<Vec<ByGraph>, 
 
 // The graph labels of rows.
 fn labels(alloc: Global, rows: &[Arc<Row>]) -> Result<Vec<Shared>, Memory>
-    ensures { IfOk result (λ names. names.items ≡ flat_map (λ q. label_terms q.graph) (map arc_value rows.now)) }
+    ensures { IfOk result
+        (λ names. names.items ≡ flat_map (λ q. label_terms q.graph) (map arc_value rows.now)) }
 {
     let mut names = Vec::new(alloc);
     for row in rows {

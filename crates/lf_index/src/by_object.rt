@@ -12,7 +12,8 @@ use std::sync::Arc;
 /// A row that stands by its object first.
 #[derive(Drop)]
 pub struct ByObject {
-    /// The number of the row's object, by which most comparisons are decided without a look at the row.
+    /// The number of the row's object, by which most comparisons are decided without a look at the
+    /// row.
     number: u64,
     row: Arc<Row>,
 }
@@ -39,7 +40,8 @@ impl ByObject {
         ByObject { number, row }
     }
 
-    /// How two keys stand by the numbers of their objects and predicates. It reads no text, and decides most of their order.
+    /// How two keys stand by the numbers of their objects and predicates. It reads no text, and
+    /// decides most of their order.
     pub fn order_by_numbers(&self, other: &ByObject) -> Ordering {
         self.number.cmp(&other.number).then_with(|| {
             self.row

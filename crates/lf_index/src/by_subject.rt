@@ -12,7 +12,8 @@ use std::sync::Arc;
 /// A row that stands by its subject first.
 #[derive(Drop)]
 pub struct BySubject {
-    /// The number of the row's subject, by which most comparisons are decided without a look at the row.
+    /// The number of the row's subject, by which most comparisons are decided without a look at the
+    /// row.
     number: u64,
     row: Arc<Row>,
 }

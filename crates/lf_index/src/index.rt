@@ -19,7 +19,8 @@ use std::alloc::Global;
 use std::marker::Model;
 use std::sync::Arc;
 
-/// The quads of a version. Contracts see them as a dataset: a list without repeats, in order of canonical lines.
+/// The quads of a version. Contracts see them as a dataset: a list without repeats, in order of
+/// canonical lines.
 ///
 /// An index doesn't change: `apply` gives another one, which shares with this one what both have.
 #[derive(Drop)]

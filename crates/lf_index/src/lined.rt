@@ -120,7 +120,8 @@ impl Ord for Lined {
     }
 }
 
-/// The quads in line order, each once. For n quads it takes n log n comparisons of numbers, and goes over the lines.
+/// The quads in line order, each once. For n quads it takes n log n comparisons of numbers, and
+/// goes over the lines.
 pub fn in_line_order(alloc: Global, found: Vec<Lined>) -> Result<QuadList, Memory>
     ensures { IfOk result (λ quads. quads ≡ dataset_of found.items) }
 {

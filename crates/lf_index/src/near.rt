@@ -1,5 +1,6 @@
-//! Values that are put nearly in order of their bytes, eight bytes at a time, so that the sort behind only goes over them. Sorting
-//! by numbers reads each text a few times, where sorting by texts reads two for each comparison. Only time depends on it.
+//! Values that are put nearly in order of their bytes, eight bytes at a time, so that the sort
+//! behind only goes over them. Sorting by numbers reads each text a few times, where sorting by
+//! texts reads two for each comparison. Only time depends on it.
 ghost use Rattle.std.specs.Prelude.{◌≡◌, Bool, IfOk, map};
 ghost use Rattle.std.specs.List.{list_any};
 ghost use Rattle.lf_index.specs.Near.{values_of};
@@ -41,9 +42,11 @@ pub fn chunks_of(bytes: &[u8]) -> usize {
     bytes.len() / CHUNK + 1
 }
 
-/// The values, nearly in order: by their last chunks, then by those before, and at last by their first.
+/// The values, nearly in order: by their last chunks, then by those before, and at last by their
+/// first.
 pub fn nearly_sorted<T: Chunked + Drop>(alloc: Global, values: Vec<T>) -> Result<Vec<T>, Memory>
-    ensures { IfOk result (λ made. (test : T → Bool) → list_any test made.items ≡ list_any test values.items) }
+    ensures { IfOk result
+        (λ made. (test : T → Bool) → list_any test made.items ≡ list_any test values.items) }
 {
     if values.len() < FEW {
         return Ok(values);
@@ -78,7 +81,8 @@ fn by_chunk<T: Chunked + Drop>(
     values: Vec<T>,
     place: usize,
 ) -> Result<Vec<T>, Memory>
-    ensures { IfOk result (λ made. (test : T → Bool) → list_any test made.items ≡ list_any test values.items) }
+    ensures { IfOk result
+        (λ made. (test : T → Bool) → list_any test made.items ≡ list_any test values.items) }
 {
     if are_alike(values.as_slice(), place) {
         return Ok(values);

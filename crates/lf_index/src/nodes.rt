@@ -25,7 +25,8 @@ pub fn put_node(found: &mut Vec<Shared>, term: &Shared) -> Result<(), Memory>
     Ok(())
 }
 
-// By kind and text, as most ids stand: those of blank nodes before those that begin with a small letter.
+// By kind and text, as most ids stand: those of blank nodes before those that begin with a small
+// letter.
 impl Chunked for Shared {
     fn chunk(&self, place: usize) -> u64 {
         match self.term() {
@@ -56,7 +57,8 @@ impl Chunked for Shared {
 
 // The terms, each once, in order of their numbers.
 fn each_once(found: Vec<Shared>) -> Result<Vec<Shared>, Memory>
-    ensures { IfOk result (λ made. (test : Term → Bool) → list_any test made.items ≡ list_any test found.items) }
+    ensures { IfOk result
+        (λ made. (test : Term → Bool) → list_any test made.items ≡ list_any test found.items) }
 {
     let mut made = found;
     made.sort_by_key(|term| term.number())?;
@@ -64,8 +66,8 @@ fn each_once(found: Vec<Shared>) -> Result<Vec<Shared>, Memory>
     Ok(made)
 }
 
-/// The terms in order of their ids, each once. For n handles of k terms it takes n log n comparisons of numbers, and goes over
-/// the ids of the k terms.
+/// The terms in order of their ids, each once. For n handles of k terms it takes n log n
+/// comparisons of numbers, and goes over the ids of the k terms.
 pub fn each_in_id_order(alloc: Global, found: Vec<Shared>) -> Result<TermList, Memory>
     ensures { IfOk result (λ terms. terms ≡ set_of id_cmp found.items) }
 {

@@ -1,4 +1,5 @@
-//! Terms that were shared last, so that a term that comes again soon is stored once. Only memory and time depend on it.
+//! Terms that were shared last, so that a term that comes again soon is stored once. Only memory
+//! and time depend on it.
 ghost use Rattle.std.specs.Prelude.{◌≡◌, IfOk};
 
 use crate::shared::{Shared, number_of};

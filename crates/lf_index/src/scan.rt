@@ -38,7 +38,8 @@ pub fn quads_reached<K: Keyed>(
     pairs: Pairs<'_, K, ()>,
     question: &Question,
 ) -> Result<Vec<Lined>, Memory>
-    ensures { IfOk result (λ found. found.items ≡ reached question.now (map (λ e. K.quad e.0) (pairs_left pairs.entry))) }
+    ensures { IfOk result (λ found.
+        found.items ≡ reached question.now (map (λ e. K.quad e.0) (pairs_left pairs.entry))) }
 {
     let mut found = Vec::new(alloc);
     for pair in pairs {
@@ -57,7 +58,9 @@ pub fn nodes_reached<K: Keyed>(
     pairs: Pairs<'_, K, ()>,
     question: &Question,
 ) -> Result<Vec<Shared>, Memory>
-    ensures { IfOk result (λ found. found.items ≡ nodes_reached question.now (map (λ e. K.quad e.0) (pairs_left pairs.entry))) }
+    ensures { IfOk result (λ found.
+        found.items
+        ≡ nodes_reached question.now (map (λ e. K.quad e.0) (pairs_left pairs.entry))) }
 {
     let mut found = Vec::new(alloc);
     for pair in pairs {

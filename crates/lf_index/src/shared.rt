@@ -1,4 +1,5 @@
-//! Terms that the rows of all versions share, each with a number by which most comparisons are decided.
+//! Terms that the rows of all versions share, each with a number by which most comparisons are
+//! decided.
 ghost use Rattle.std.specs.Prelude.{◌≡◌, ◌<◌, [], IfOk};
 ghost use Rattle.lf_rdf.specs.declared.term.Term.TheVariants.{Iri};
 ghost use Rattle.def_datasets.specs.Order.{parts_cmp, term_parts};
@@ -93,7 +94,8 @@ impl Shared {
     }
 }
 
-// How two terms of one number stand by their parts. Mostly they are equal, and equality takes less time than order.
+// How two terms of one number stand by their parts. Mostly they are equal, and equality takes less
+// time than order.
 #[tactic(auto, using(crate::proofs::OrderLemmas::parts_tie))]
 fn by_texts(one: &Term, two: &Term) -> Ordering
     ensures { result ≡ parts_cmp (term_parts one.now) (term_parts two.now) }
@@ -204,7 +206,8 @@ fn mixed(first: u64, text: &[u8]) -> u64
     number
 }
 
-/// The least term: the empty IRI. It stands before every term, so a row with it begins the rows of its other terms.
+/// The least term: the empty IRI. It stands before every term, so a row with it begins the rows of
+/// its other terms.
 pub fn least(alloc: Global) -> Result<Shared, Memory>
     ensures { IfOk result (λ shared. shared ≡ Iri []) }
 {

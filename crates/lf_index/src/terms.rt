@@ -16,8 +16,8 @@ use lf_rdf::TermList;
 use std::alloc::Global;
 
 impl Index {
-    /// The IRIs and blank nodes that are subject, object or graph label of a quad, in order of their ids. It asks no question, and
-    /// takes n log n comparisons of ids for n quads.
+    /// The IRIs and blank nodes that are subject, object or graph label of a quad, in order of
+    /// their ids. It asks no question, and takes n log n comparisons of ids for n quads.
     pub fn terms(&self, alloc: Global) -> Result<TermList, Memory>
         ensures { IfOk result (λ found. found ≡ terms self.now) }
     {
@@ -27,7 +27,10 @@ impl Index {
 
 // The nodes of each quad.
 fn nodes_of(alloc: Global, by_subject: &PMap<BySubject, ()>) -> Result<Vec<Shared>, Memory>
-    ensures { IfOk result (λ found. found.items ≡ filter is_node (flat_map (λ q. q.subject ∷ q.object ∷ label_terms q.graph) (keys by_subject.now))) }
+    ensures { IfOk result (λ found.
+        found.items
+        ≡ filter is_node
+        (flat_map (λ q. q.subject ∷ q.object ∷ label_terms q.graph) (keys by_subject.now))) }
 {
     let mut found = Vec::new(alloc);
     for pair in by_subject.iter() {
@@ -38,7 +41,9 @@ fn nodes_of(alloc: Global, by_subject: &PMap<BySubject, ()>) -> Result<Vec<Share
 
 // The nodes of a quad.
 fn put_terms(found: &mut Vec<Shared>, row: &Row) -> Result<(), Memory>
-    ensures { OnOk result (found.new.items ≡ found.old.items ++ filter is_node (row.now.subject ∷ row.now.object ∷ label_terms row.now.graph)) }
+    ensures { OnOk result (found.new.items
+        ≡ found.old.items
+        ++ filter is_node (row.now.subject ∷ row.now.object ∷ label_terms row.now.graph)) }
 {
     put_node(found, &row.subject)?;
     put_node(found, &row.object)?;

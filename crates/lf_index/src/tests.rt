@@ -225,7 +225,8 @@ fn agrees_on_all<L: Ledger>(
     Ok(here && there)
 }
 
-// Whether an index answers all questions about its terms as the list of a text's quads does, and has as many.
+// Whether an index answers all questions about its terms as the list of a text's quads does, and
+// has as many.
 fn is_listed<L: Ledger>(
     alloc: Global,
     index: &Index,
@@ -318,7 +319,8 @@ const LAST: &str = "<http://e/a> <http://e/p> \"1\" <http://e/g> .
 <http://e/b> <http://e/q> \"z\"@en .
 ";
 
-// The second version, the first one with a quad that goes and comes, and the first one itself behind them.
+// The second version, the first one with a quad that goes and comes, and the first one itself
+// behind them.
 fn versions<L: Ledger>(
     alloc: Global,
     kept: &Index,

@@ -9,7 +9,8 @@ use Rattle.lf_io.specs.Files.{Files}
 
 -- the bytes of the first file of each name
 abbrev pub by_name : List File → Files
-by_name files name = option_map (λ file. file.bytes) (find (λ file. pointwise nat_eq file.name name) files)
+by_name files name =
+    option_map (λ file. file.bytes) (find (λ file. pointwise nat_eq file.name name) files)
 
 -- the files of a shelf
 abbrev pub shelf_files : MemoryShelf → List File

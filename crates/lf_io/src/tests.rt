@@ -101,7 +101,8 @@ fn readers_and_writers_are_sources_and_sinks(rt: HostRuntime) -> Result<(), Fail
     Ok(())
 }
 
-// Takes and gives one byte a call. Its second call is interrupted, its fourth fails, and its sixth takes nothing.
+// Takes and gives one byte a call. Its second call is interrupted, its fourth fails, and its sixth
+// takes nothing.
 #[derive(Drop)]
 struct Shaky {
     calls: u32,

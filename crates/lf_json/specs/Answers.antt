@@ -21,7 +21,9 @@ States bytes value = IsUtf8 bytes × (read bytes ≡ Some value)
 
 -- the answer for a text
 abbrev pub Reads : List ℕ → Result Json JsonErr → Type 0
-Reads bytes (Ok json) = (value : Data) × States bytes value × (fraction_in false value ≡ None) × (json_data json ≡ json_of value)
-Reads bytes (Err (Fractional path)) = (value : Data) × States bytes value × (fraction_in false value ≡ Some path)
+Reads bytes (Ok json) = (value : Data) × States bytes value × (fraction_in false value ≡ None)
+    × (json_data json ≡ json_of value)
+Reads bytes (Err (Fractional path)) =
+    (value : Data) × States bytes value × (fraction_in false value ≡ Some path)
 Reads bytes (Err NotJson) = IsUtf8 bytes → read bytes ≡ None
 Reads bytes (Err Memory) = Unit {0}

@@ -67,7 +67,8 @@ abbrev mutual
   InKeyOrder fraction = ⊤
   InKeyOrder (text s) = ⊤
   InKeyOrder (array items) = ItemsInKeyOrder items
-  InKeyOrder (object members) = IsStrictlySortedBy text_cmp (member_keys members) × MembersInKeyOrder members
+  InKeyOrder (object members) =
+      IsStrictlySortedBy text_cmp (member_keys members) × MembersInKeyOrder members
 
   pub ItemsInKeyOrder : JsonItems → Type 0
   ItemsInKeyOrder no_items = ⊤
@@ -83,7 +84,8 @@ IsReadable value = HasWords value × (nesting value ≤ 127)
 
 -- the text states this value
 abbrev pub ReadsAs : List ℕ → JsonValue → Type 0
-ReadsAs bytes value = (read : Data) × States bytes read × (fraction_in false read ≡ None) × (json_of read ≡ value)
+ReadsAs bytes value =
+    (read : Data) × States bytes read × (fraction_in false read ≡ None) × (json_of read ≡ value)
 
 -- the answer is this value, or memory is lacking
 abbrev pub GivesBack : JsonValue → Result Json JsonErr → Type 0
@@ -94,4 +96,5 @@ GivesBack value (Err Memory) = ⊤
 
 -- whoever reads a text that states a value is given that value
 abbrev pub EachReadingGivesBack : Type 0
-EachReadingGivesBack = (bytes : List ℕ) (value : JsonValue) → ReadsAs bytes value → (result : Result Json JsonErr) → Reads bytes result → GivesBack value result
+EachReadingGivesBack = (bytes : List ℕ) (value : JsonValue) → ReadsAs bytes value →
+    (result : Result Json JsonErr) → Reads bytes result → GivesBack value result

@@ -1,4 +1,5 @@
--- The value of a JSON text: the value that `serde_json` reads, with whole numbers of 64 bits and no others.
+-- The value of a JSON text: the value that `serde_json` reads, with whole numbers of 64 bits and no
+-- others.
 use Rattle.std.specs.Prelude.{ℕ, suc, pos, List, [], ◌∷◌, ◌++◌, ◌&&◌, Bool, false, not, nat_eq, bytes_eq, codes, decimal, flat_map, encode_utf8, Option, Some, None, if◌then◌else◌}
 use Rattle.std.specs.Str.{chars}
 use Rattle.serde_json.specs.Data.{Num, unsigned, negative, float, Data, null, boolean, number, string, array, object, Items, no_items, item, Members, no_members, member}
@@ -32,7 +33,8 @@ abbrev mutual
 
 -- `~0` stands for `~`, and `~1` for `/`
 abbrev pub pointer_char : ℕ → List ℕ
-pointer_char c = if nat_eq c 126 then 126 ∷ 48 ∷ [] else if nat_eq c 47 then 126 ∷ 49 ∷ [] else encode_utf8 c
+pointer_char c =
+    if nat_eq c 126 then 126 ∷ 48 ∷ [] else if nat_eq c 47 then 126 ∷ 49 ∷ [] else encode_utf8 c
 
 abbrev pub pointer_key : List ℕ → List ℕ
 pointer_key key = 47 ∷ flat_map pointer_char (chars key)
@@ -62,8 +64,10 @@ abbrev mutual
   -- in items from this place on
   pub fraction_in_items : ℕ → Items → Option (List ℕ)
   fraction_in_items place no_items = None
-  fraction_in_items place (item value rest) = found_or (pointer_place place) (fraction_in false value) (fraction_in_items (suc place) rest)
+  fraction_in_items place (item value rest) =
+      found_or (pointer_place place) (fraction_in false value) (fraction_in_items (suc place) rest)
 
   pub fraction_in_members : Members → Option (List ℕ)
   fraction_in_members no_members = None
-  fraction_in_members (member key value rest) = found_or (pointer_key key) (fraction_in (may_be_fraction key) value) (fraction_in_members rest)
+  fraction_in_members (member key value rest) = found_or (pointer_key key)
+      (fraction_in (may_be_fraction key) value) (fraction_in_members rest)

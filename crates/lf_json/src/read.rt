@@ -19,7 +19,8 @@ use thiserror::Error;
 pub enum JsonErr {
     #[error("not JSON")]
     NotJson,
-    /// A number that is no whole number from -2^63 to 2^64 - 1, by the JSON pointer of the first (RFC 6901).
+    /// A number that is no whole number from -2^63 to 2^64 - 1, by the JSON pointer of the first
+    /// (RFC 6901).
     #[error("fractional number at {}", .path.as_str())]
     Fractional { path: Text },
     #[error("out of memory")]
@@ -37,9 +38,10 @@ impl From<Memory> for JsonErr {
     }
 }
 
-/// The value that a JSON text states (RFC 8259), with its members in byte order of their keys; of repeated keys
-/// the last counts. A number that is no whole number of 64 bits stands only as the value of a key `@version`.
-/// What is nested past 127 levels is no JSON here. The cost grows with the length of the text.
+/// The value that a JSON text states (RFC 8259), with its members in byte order of their keys; of
+/// repeated keys the last counts. A number that is no whole number of 64 bits stands only as the
+/// value of a key `@version`. What is nested past 127 levels is no JSON here. The cost grows with
+/// the length of the text.
 pub fn read_json(alloc: Global, bytes: &[u8]) -> Result<Json, JsonErr>
     ensures { Reads bytes.now result }
 {
@@ -159,7 +161,8 @@ fn json_from(alloc: Global, value: &Value) -> Result<Json, Memory>
 
 #[cycle(values)]
 fn list_from(alloc: Global, items: &Vec<Value>) -> Result<JsonList, Memory>
-    ensures { IfOk result (λ list. j.array (items_data list) ≡ json_of (array (items_view items.now.items))) }
+    ensures { IfOk result
+        (λ list. j.array (items_data list) ≡ json_of (array (items_view items.now.items))) }
 {
     let mut found = Vec::with_capacity(alloc, items.len())?;
     for item in items {
@@ -170,7 +173,8 @@ fn list_from(alloc: Global, items: &Vec<Value>) -> Result<JsonList, Memory>
 
 #[cycle(values)]
 fn map_from(alloc: Global, members: &Map<String, Value>) -> Result<JsonMap, Memory>
-    ensures { IfOk result (λ map. j.object (members_data map) ≡ json_of (object (members_view members.now.entries))) }
+    ensures { IfOk result (λ map.
+        j.object (members_data map) ≡ json_of (object (members_view members.now.entries))) }
 {
     let mut found = Vec::with_capacity(alloc, members.len())?;
     for (key, member) in members.iter() {

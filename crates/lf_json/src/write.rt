@@ -13,9 +13,9 @@ use lf_base::{Memory, Text};
 use lf_model::{Json, JsonList, JsonMap};
 use std::alloc::Global;
 
-/// The compact text of a value that holds no fraction (RFC 8259): no space between tokens, members in byte order
-/// of their keys. Where its whole numbers are of 64 bits and it nests at most 127 levels deep, the text reads back as
-/// the value. The cost grows with the length of the text.
+/// The compact text of a value that holds no fraction (RFC 8259): no space between tokens, members
+/// in byte order of their keys. Where its whole numbers are of 64 bits and it nests at most 127
+/// levels deep, the text reads back as the value. The cost grows with the length of the text.
 pub fn text(alloc: Global, json: &Json) -> Result<Text, Memory>
     requires { IsFalse (has_fraction (json_data json.now)) }
     ensures value { IfOk result (λ text. text ≡ json_text (json_data json.now)) }
@@ -105,7 +105,9 @@ fn write(json: &Json, out: &mut Writer) -> Result<(), Memory>
 
 #[cycle(writing)]
 fn write_items(items: &JsonList, out: &mut Writer) -> Result<(), Memory>
-    ensures tokens { IsFalse (items_have_fraction (items_data items.now)) → OnOk result (Appends out.old out.new (t.begin_array ∷ item_tokens (items_data items.now))) }
+    ensures tokens { IsFalse (items_have_fraction (items_data items.now)) →
+        OnOk result
+        (Appends out.old out.new (t.begin_array ∷ item_tokens (items_data items.now))) }
     ensures order { OnOk result (InKeyOrder (j.array (items_data items.now))) }
 {
     out.begin_array()?;
@@ -118,7 +120,9 @@ fn write_items(items: &JsonList, out: &mut Writer) -> Result<(), Memory>
 
 #[cycle(writing)]
 fn write_members(members: &JsonMap, out: &mut Writer) -> Result<(), Memory>
-    ensures tokens { IsFalse (members_have_fraction (members_data members.now)) → OnOk result (Appends out.old out.new (t.begin_object ∷ member_tokens (members_data members.now))) }
+    ensures tokens { IsFalse (members_have_fraction (members_data members.now)) →
+        OnOk result
+        (Appends out.old out.new (t.begin_object ∷ member_tokens (members_data members.now))) }
     ensures order { OnOk result (InKeyOrder (j.object (members_data members.now))) }
 {
     out.begin_object()?;

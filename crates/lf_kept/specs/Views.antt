@@ -16,7 +16,8 @@ use Rattle.lf_kept.specs.declared.entry.Kept.{Kept}
 -- what is learnt of a node by questions that nobody tells
 abbrev pub ViewIsLearnt : List Quad → GraphRef → Term → ℕ → ℕ → Option NodeView → Type 0
 ViewIsLearnt dataset g id first last found =
-    Learns (IsNearOne dataset (IsOfNode g id)) dataset None None first last (λ other. view_of other g id) (option_map view_data found)
+    Learns (IsNearOne dataset (IsOfNode g id)) dataset None None first last
+    (λ other. view_of other g id) (option_map view_data found)
 
 -- what was kept was learnt by as many questions as it says
 abbrev pub IsKept : List Quad → Kept → Type 0
@@ -24,7 +25,8 @@ IsKept dataset kept = ViewIsLearnt dataset kept.graph kept.id 0 kept.asked kept.
 
 -- all that is kept was
 abbrev pub AllKept : List Quad → BTreeMap (List ℕ) Kept → Type 0
-AllKept dataset kept = (key : List ℕ) (one : Kept) → get (slice_cmp nat_cmp) kept key ≡ Some one → IsKept dataset one
+AllKept dataset kept =
+    (key : List ℕ) (one : Kept) → get (slice_cmp nat_cmp) kept key ≡ Some one → IsKept dataset one
 
 -- what is given again, where it was kept; otherwise no step is made
 abbrev pub IsAgain : List Quad → GraphRef → Term → ℕ → ℕ → Option (Option NodeView) → Type 0

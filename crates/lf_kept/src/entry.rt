@@ -74,7 +74,9 @@ pub(crate) fn again<L: Ledger>(
     id: &Term,
     steps: &mut Steps<L>,
 ) -> Result<Option<Option<NodeView>>, Memory>
-    ensures { IfOk result (λ again. (dataset : List Quad) → AllKept dataset kept.now → IsAgain dataset graph.now id.now steps.old steps.new again) }
+    ensures { IfOk result (λ again.
+        (dataset : List Quad) → AllKept dataset kept.now →
+        IsAgain dataset graph.now id.now steps.old steps.new again) }
 {
     match kept.get(key) {
         Some(one) => {

@@ -14,14 +14,14 @@ use std::collections::BTreeMap;
 use std::marker::Model;
 use std::sync::ledger::Ledger;
 
-/// The nodes of the dataset that an oracle answers about, as framing sees them (JSON-LD 1.1 Framing,
-/// section 4.1). Each view is kept, and given again with as many steps; its questions are asked
-/// once. So for the trees of all nodes of a dataset the oracle is asked about each node once,
+/// The nodes of the dataset that an oracle answers about, as framing sees them (JSON-LD 1.1
+/// Framing, section 4.1). Each view is kept, and given again with as many steps; its questions are
+/// asked once. So for the trees of all nodes of a dataset the oracle is asked about each node once,
 /// however many refer to it. The questions aren't told.
 ///
 /// What is kept is one view for each graph and node that was asked for, also where the node is no
-/// key: its properties with their values, whose texts are shared with the answers, and a name of its
-/// own. So the memory grows with the quads of the nodes that were visited, and nothing of it is
+/// key: its properties with their values, whose texts are shared with the answers, and a name of
+/// its own. So the memory grows with the quads of the nodes that were visited, and nothing of it is
 /// given back before the end. Contracts see the quads.
 #[derive(Drop)]
 pub struct KeptNodes<O: Oracle> {

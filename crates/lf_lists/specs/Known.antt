@@ -1,4 +1,5 @@
--- Which nodes of a graph are known to be cells, or not to be, from questions that were asked before.
+-- Which nodes of a graph are known to be cells, or not to be, from questions that were asked
+-- before.
 use Rattle.std.specs.Prelude.{◌≡◌, List, ℕ, Bool, not, IsTrue}
 use Rattle.lf_rdf.specs.declared.term.Term.{Term}
 use Rattle.lf_rdf.specs.declared.quad.Quad.{Quad}
@@ -20,22 +21,28 @@ pub record Knows (dataset : List Quad) (g : GraphRef) (known : KnownCells) : Typ
   pub others : AllMarked (outside (is_cell dataset g)) known.others.keys
 
 -- what was found of a node, and what is known then
-pub record IsFound (dataset : List Quad) (g : GraphRef) (known : KnownCells) (node : Term) (found : Bool) : Type 0 where
+pub record IsFound (dataset : List Quad) (g : GraphRef) (known : KnownCells) (node : Term)
+    (found : Bool) : Type 0 where
   pub cell : found ≡ is_cell dataset g node
   pub knows : Knows dataset g known
 
 -- whether a node is proper, and what is known then
-pub record IsExamined (dataset : List Quad) (g : GraphRef) (known : KnownCells) (node : Term) (found : Bool) : Type 0 where
+pub record IsExamined (dataset : List Quad) (g : GraphRef) (known : KnownCells) (node : Term)
+    (found : Bool) : Type 0 where
   pub proper : found ≡ is_proper dataset g node
   pub knows : Knows dataset g known
 
--- what a walk along `rdf:rest` tells: whether its start ends a list well, and that the nodes that were walked do as it does
-pub record WalkTells (dataset : List Quad) (g : GraphRef) (walked : List (List ℕ)) (start : Term) (ends : Bool) : Type 0 where
+-- what a walk along `rdf:rest` tells: whether its start ends a list well, and that the nodes that
+-- were walked do as it does
+pub record WalkTells (dataset : List Quad) (g : GraphRef) (walked : List (List ℕ)) (start : Term)
+    (ends : Bool) : Type 0 where
   pub start_ends : ends ≡ ends_well dataset g start
   pub alike : (x : Term) → IsTrue (marked walked x) → is_proper dataset g x ≡ ends
 
--- what going back tells: whether its start is a cell, that the nodes that were climbed are as it is, and what is known then
-pub record ClimbTells (dataset : List Quad) (g : GraphRef) (known : KnownCells) (climbed : List (List ℕ)) (start : Term) (found : Bool) : Type 0 where
+-- what going back tells: whether its start is a cell, that the nodes that were climbed are as it
+-- is, and what is known then
+pub record ClimbTells (dataset : List Quad) (g : GraphRef) (known : KnownCells)
+    (climbed : List (List ℕ)) (start : Term) (found : Bool) : Type 0 where
   pub cell : found ≡ is_cell dataset g start
   pub alike : (x : Term) → IsTrue (marked climbed x) → is_cell dataset g x ≡ found
   pub knows : Knows dataset g known

@@ -16,9 +16,11 @@ marked labels (Literal lexical datatype language) = false
 abbrev pub AllMarked : (Term → Bool) → List (List ℕ) → Type 0
 AllMarked set labels = (x : Term) → IsTrue (marked labels x) → IsTrue (set x)
 
--- each node is marked once, so the marks are no more than the terms of a list that holds all of them
+-- each node is marked once, so the marks are no more than the terms of a list that holds all of
+-- them
 abbrev pub IsFew : List (List ℕ) → Type 0
-IsFew labels = (terms : List Term) → AllMarked (sorted.has term_eq terms) labels → length labels ≤ length terms
+IsFew labels =
+    (terms : List Term) → AllMarked (sorted.has term_eq terms) labels → length labels ≤ length terms
 
 -- one more node is marked
 pub record HasMark (before after : List (List ℕ)) (node : Term) : Type 0 where
@@ -30,4 +32,5 @@ pub record HasMark (before after : List (List ℕ)) (node : Term) : Type 0 where
 
 -- marks of two sets, and no others
 abbrev pub HasMarksOf : List (List ℕ) → List (List ℕ) → List (List ℕ) → Type 0
-HasMarksOf one two after = (x : Term) → IsTrue (marked after x) → IsTrue (marked one x) ⊎ IsTrue (marked two x)
+HasMarksOf one two after =
+    (x : Term) → IsTrue (marked after x) → IsTrue (marked one x) ⊎ IsTrue (marked two x)

@@ -45,7 +45,8 @@ IsListAt dataset g t = value_of dataset g t ≡ list (items_at dataset g t)
 
 -- these are all items of the list that a cell stands for
 abbrev pub ReadsAll : List Quad → GraphRef → Term → List Value → Type 0
-ReadsAll dataset g head items = IsTrue (is_cell dataset g head) → value_of dataset g head ≡ list (values_data items)
+ReadsAll dataset g head items =
+    IsTrue (is_cell dataset g head) → value_of dataset g head ≡ list (values_data items)
 
 -- ---- readers
 
@@ -54,15 +55,18 @@ abbrev pub before_all : List ListValue → ListValues → ListValues
 before_all [] more = more
 before_all (x ∷ xs) more = value x (before_all xs more)
 
--- the items of the outermost list, where the lists inside one another wait and the innermost has these items
+-- the items of the outermost list, where the lists inside one another wait and the innermost has
+-- these items
 abbrev pub nested_in : List Quad → GraphRef → List OpenList → ListValues → ListValues
 nested_in dataset g [] inner = inner
 nested_in dataset g (o ∷ os) inner =
-    before_all (map value_data o.items) (value (list (nested_in dataset g os inner)) (items_at dataset g o.rest))
+    before_all (map value_data o.items)
+    (value (list (nested_in dataset g os inner)) (items_at dataset g o.rest))
 
 -- the items that a reader will have read at its end
 abbrev pub read_in : List Quad → GraphRef → Reader → ListValues
-read_in dataset g r = nested_in dataset g r.open.items (before_all (map value_data r.items) (items_at dataset g r.rest))
+read_in dataset g r = nested_in dataset g r.open.items
+    (before_all (map value_data r.items) (items_at dataset g r.rest))
 
 -- how much is left to read: two for each item, and one for each list that waits
 abbrev mutual
@@ -77,7 +81,8 @@ abbrev mutual
 
 abbrev pub weight_open : List Quad → GraphRef → List OpenList → ℕ
 weight_open dataset g [] = 0
-weight_open dataset g (o ∷ os) = 1 + weight_all (items_at dataset g o.rest) + weight_open dataset g os
+weight_open dataset g (o ∷ os) =
+    1 + weight_all (items_at dataset g o.rest) + weight_open dataset g os
 
 abbrev pub left_in : List Quad → GraphRef → Reader → ℕ
 left_in dataset g r = weight_all (items_at dataset g r.rest) + weight_open dataset g r.open.items
@@ -97,7 +102,8 @@ pub record AreNear (dataset : List Quad) (origin : Term) (r : Reader) : Type 0 w
 -- the item and the rest of a cell
 abbrev pub ArePartsOf : List Quad → GraphRef → Term → Parts → Type 0
 ArePartsOf dataset g cell parts =
-    (item_of (answers_of dataset) g cell ≡ Some parts.item) × (rest_of (answers_of dataset) g cell ≡ Some parts.rest)
+    (item_of (answers_of dataset) g cell ≡ Some parts.item)
+    × (rest_of (answers_of dataset) g cell ≡ Some parts.rest)
 
 -- a reader goes on with the item of a cell, and its rest waits
 pub record GoesUnder (before : Reader) (parts : Parts) (after : Reader) : Type 0 where

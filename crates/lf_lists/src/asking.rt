@@ -50,7 +50,10 @@ pub fn quads_out<O: Oracle, L: Ledger>(
     steps: &mut Steps<L>,
 ) -> Result<QuadList, Memory>
     requires graph { IsTrue (is_one_graph graph.now) }
-    ensures quads { IfOk result (λ found. Learns (NearTo (O.quads oracle.old) subject.now) (O.quads oracle.old) (O.told oracle.old) (O.told oracle.new) steps.old steps.new (λ dataset. out dataset graph.now subject.now) found) }
+    ensures quads { IfOk result (λ found.
+        Learns (NearTo (O.quads oracle.old) subject.now) (O.quads oracle.old)
+        (O.told oracle.old) (O.told oracle.new) steps.old steps.new
+        (λ dataset. out dataset graph.now subject.now) found) }
     ensures counts { OnOk result (steps.new ≡ steps.old + 1) }
     ensures quads_stay { O.quads oracle.new ≡ O.quads oracle.old }
 {
@@ -67,7 +70,10 @@ pub fn quads_using<O: Oracle, L: Ledger>(
     object: &Term,
     steps: &mut Steps<L>,
 ) -> Result<QuadList, Memory>
-    ensures quads { IfOk result (λ found. Learns (NearTo (O.quads oracle.old) object.now) (O.quads oracle.old) (O.told oracle.old) (O.told oracle.new) steps.old steps.new (λ dataset. uses dataset object.now) found) }
+    ensures quads { IfOk result (λ found.
+        Learns (NearTo (O.quads oracle.old) object.now) (O.quads oracle.old)
+        (O.told oracle.old) (O.told oracle.new) steps.old steps.new
+        (λ dataset. uses dataset object.now) found) }
     ensures counts { OnOk result (steps.new ≡ steps.old + 1) }
     ensures quads_stay { O.quads oracle.new ≡ O.quads oracle.old }
 {
@@ -84,7 +90,9 @@ pub fn is_named<O: Oracle, L: Ledger>(
     name: &Term,
     steps: &mut Steps<L>,
 ) -> Result<bool, Memory>
-    ensures names { IfOk result (λ found. Learns (NearTo (O.quads oracle.old) name.now) (O.quads oracle.old) (O.told oracle.old) (O.told oracle.new) steps.old steps.new (λ dataset. named dataset name.now) found) }
+    ensures names { IfOk result (λ found.
+        Learns (NearTo (O.quads oracle.old) name.now) (O.quads oracle.old) (O.told oracle.old)
+        (O.told oracle.new) steps.old steps.new (λ dataset. named dataset name.now) found) }
     ensures counts { OnOk result (steps.new ≡ steps.old + 1) }
     ensures quads_stay { O.quads oracle.new ≡ O.quads oracle.old }
 {

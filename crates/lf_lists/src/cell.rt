@@ -31,7 +31,10 @@ pub fn is_cell<O: Oracle, L: Ledger>(
     steps: &mut Steps<L>,
 ) -> Result<bool, Memory>
     requires graph { IsTrue (is_one_graph graph.now) }
-    ensures cell { IfOk result (λ found. Learns (NearTo (O.quads oracle.old) node.now) (O.quads oracle.old) (O.told oracle.old) (O.told oracle.new) steps.old steps.new (λ dataset. is_cell dataset graph.now node.now) found) }
+    ensures cell { IfOk result (λ found.
+        Learns (NearTo (O.quads oracle.old) node.now) (O.quads oracle.old) (O.told oracle.old)
+        (O.told oracle.new) steps.old steps.new
+        (λ dataset. is_cell dataset graph.now node.now) found) }
     ensures bound { OnOk result (steps.new ≤ steps.old + 8 * (length (O.quads oracle.old) + 1)) }
     ensures quads_stay { O.quads oracle.new ≡ O.quads oracle.old }
 {
@@ -59,8 +62,12 @@ fn climbs_out<O: Oracle, L: Ledger>(
     requires start { IsTrue (is_proper (O.quads oracle.old) graph.now start.now) }
     requires proper { AllMarked (is_proper (O.quads oracle.old) graph.now) proper.old.keys }
     requires few { IsFew proper.old.keys }
-    ensures climbs { IfOk result (λ found. Hears (NearTo (O.quads oracle.old) start.now) (O.quads oracle.old) (O.told oracle.old) (O.told oracle.new) steps.old steps.new (λ dataset. Climbs dataset graph.now proper.old.keys start.now found)) }
-    ensures bound { OnOk result (steps.new + 3 * length proper.old.keys ≤ steps.old + 4 * length (O.quads oracle.old) + 4) }
+    ensures climbs { IfOk result (λ found.
+        Hears (NearTo (O.quads oracle.old) start.now) (O.quads oracle.old) (O.told oracle.old)
+        (O.told oracle.new) steps.old steps.new
+        (λ dataset. Climbs dataset graph.now proper.old.keys start.now found)) }
+    ensures bound { OnOk result (steps.new + 3 * length proper.old.keys
+        ≤ steps.old + 4 * length (O.quads oracle.old) + 4) }
     ensures quads_stay { O.quads oracle.new ≡ O.quads oracle.old }
 {
     let mut climbed: Marks = BTreeSet::new(alloc);
@@ -92,7 +99,10 @@ pub(crate) fn user<O: Oracle, L: Ledger>(
     node: &Term,
     steps: &mut Steps<L>,
 ) -> Result<Option<Term>, Memory>
-    ensures user { IfOk result (λ found. Learns (NearTo (O.quads oracle.old) node.now) (O.quads oracle.old) (O.told oracle.old) (O.told oracle.new) steps.old steps.new (λ dataset. user_of (answers_of dataset) node.now) found) }
+    ensures user { IfOk result (λ found.
+        Learns (NearTo (O.quads oracle.old) node.now) (O.quads oracle.old) (O.told oracle.old)
+        (O.told oracle.new) steps.old steps.new
+        (λ dataset. user_of (answers_of dataset) node.now) found) }
     ensures counts { OnOk result (steps.new ≡ steps.old + 1) }
     ensures quads_stay { O.quads oracle.new ≡ O.quads oracle.old }
 {

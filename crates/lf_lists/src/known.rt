@@ -56,7 +56,12 @@ impl KnownCells {
     ) -> Result<bool, Memory>
         requires graph { IsTrue (is_one_graph graph.now) }
         requires knows { Knows (O.quads oracle.old) graph.now self.old }
-        ensures cell { IfOk result (λ found. Hears (NearTo (O.quads oracle.old) node.now) (O.quads oracle.old) (O.told oracle.old) (O.told oracle.new) steps.old steps.new (λ dataset. Knows dataset graph.now self.old → IsFound dataset graph.now self.new node.now found)) }
+        ensures cell { IfOk result (λ found.
+            Hears (NearTo (O.quads oracle.old) node.now) (O.quads oracle.old)
+            (O.told oracle.old) (O.told oracle.new) steps.old steps.new
+            (λ dataset.
+            Knows dataset graph.now self.old →
+            IsFound dataset graph.now self.new node.now found)) }
         ensures quads_stay { O.quads oracle.new ≡ O.quads oracle.old }
     {
         let listed = is_marked(&self.cells, node);
@@ -88,7 +93,11 @@ fn climb<O: Oracle, L: Ledger>(
     requires graph { IsTrue (is_one_graph graph.now) }
     requires start { IsTrue (is_proper (O.quads oracle.old) graph.now start.now) }
     requires knows { Knows (O.quads oracle.old) graph.now known.old }
-    ensures climbs { IfOk result (λ found. Hears (NearTo (O.quads oracle.old) start.now) (O.quads oracle.old) (O.told oracle.old) (O.told oracle.new) steps.old steps.new (λ dataset. IsTrue (is_proper dataset graph.now start.now) → Knows dataset graph.now known.old → IsFound dataset graph.now known.new start.now found)) }
+    ensures climbs { IfOk result (λ found.
+        Hears (NearTo (O.quads oracle.old) start.now) (O.quads oracle.old) (O.told oracle.old)
+        (O.told oracle.new) steps.old steps.new (λ dataset.
+        IsTrue (is_proper dataset graph.now start.now) → Knows dataset graph.now known.old →
+        IsFound dataset graph.now known.new start.now found)) }
     ensures quads_stay { O.quads oracle.new ≡ O.quads oracle.old }
 {
     let mut climbed: Marks = BTreeSet::new(alloc);
@@ -116,7 +125,11 @@ fn climb_marking<O: Oracle, L: Ledger>(
     requires start { IsTrue (is_proper (O.quads oracle.old) graph.now start.now) }
     requires knows { Knows (O.quads oracle.old) graph.now known.old }
     requires empty { climbed.old.keys ≡ [] }
-    ensures climbs { IfOk result (λ found. Hears (NearTo (O.quads oracle.old) start.now) (O.quads oracle.old) (O.told oracle.old) (O.told oracle.new) steps.old steps.new (λ dataset. IsTrue (is_proper dataset graph.now start.now) → Knows dataset graph.now known.old → ClimbTells dataset graph.now known.new climbed.new.keys start.now found)) }
+    ensures climbs { IfOk result (λ found.
+        Hears (NearTo (O.quads oracle.old) start.now) (O.quads oracle.old) (O.told oracle.old)
+        (O.told oracle.new) steps.old steps.new (λ dataset.
+        IsTrue (is_proper dataset graph.now start.now) → Knows dataset graph.now known.old →
+        ClimbTells dataset graph.now known.new climbed.new.keys start.now found)) }
     ensures quads_stay { O.quads oracle.new ≡ O.quads oracle.old }
 {
     let mut node = start.copy(alloc)?;
@@ -159,7 +172,11 @@ fn examine<O: Oracle, L: Ledger>(
     steps: &mut Steps<L>,
 ) -> Result<bool, Memory>
     requires graph { IsTrue (is_one_graph graph.now) }
-    ensures examines { IfOk result (λ found. Hears (NearTo (O.quads oracle.old) node.now) (O.quads oracle.old) (O.told oracle.old) (O.told oracle.new) steps.old steps.new (λ dataset. Knows dataset graph.now known.old → IsExamined dataset graph.now known.new node.now found)) }
+    ensures examines { IfOk result (λ found.
+        Hears (NearTo (O.quads oracle.old) node.now) (O.quads oracle.old) (O.told oracle.old)
+        (O.told oracle.new) steps.old steps.new (λ dataset.
+        Knows dataset graph.now known.old →
+        IsExamined dataset graph.now known.new node.now found)) }
     ensures quads_stay { O.quads oracle.new ≡ O.quads oracle.old }
 {
     let blank = is_blank(node);
@@ -180,7 +197,11 @@ fn examine_blank<O: Oracle, L: Ledger>(
 ) -> Result<bool, Memory>
     requires graph { IsTrue (is_one_graph graph.now) }
     requires blank { IsTrue (is_blank node.now) }
-    ensures examines { IfOk result (λ found. Hears (NearTo (O.quads oracle.old) node.now) (O.quads oracle.old) (O.told oracle.old) (O.told oracle.new) steps.old steps.new (λ dataset. Knows dataset graph.now known.old → IsExamined dataset graph.now known.new node.now found)) }
+    ensures examines { IfOk result (λ found.
+        Hears (NearTo (O.quads oracle.old) node.now) (O.quads oracle.old) (O.told oracle.old)
+        (O.told oracle.new) steps.old steps.new (λ dataset.
+        Knows dataset graph.now known.old →
+        IsExamined dataset graph.now known.new node.now found)) }
     ensures quads_stay { O.quads oracle.new ≡ O.quads oracle.old }
 {
     let mut walked: Marks = BTreeSet::new(alloc);
@@ -206,7 +227,11 @@ fn walk<O: Oracle, L: Ledger>(
 ) -> Result<bool, Memory>
     requires graph { IsTrue (is_one_graph graph.now) }
     requires empty { walked.old.keys ≡ [] }
-    ensures walks { IfOk result (λ ends. Hears (NearTo (O.quads oracle.old) start.now) (O.quads oracle.old) (O.told oracle.old) (O.told oracle.new) steps.old steps.new (λ dataset. Knows dataset graph.now known.now → WalkTells dataset graph.now walked.new.keys start.now ends)) }
+    ensures walks { IfOk result (λ ends.
+        Hears (NearTo (O.quads oracle.old) start.now) (O.quads oracle.old) (O.told oracle.old)
+        (O.told oracle.new) steps.old steps.new (λ dataset.
+        Knows dataset graph.now known.now →
+        WalkTells dataset graph.now walked.new.keys start.now ends)) }
     ensures quads_stay { O.quads oracle.new ≡ O.quads oracle.old }
 {
     let mut node = start.copy(alloc)?;

@@ -29,8 +29,13 @@ pub(crate) fn ends_well<O: Oracle, L: Ledger>(
     steps: &mut Steps<L>,
 ) -> Result<bool, Memory>
     requires graph { IsTrue (is_one_graph graph.now) }
-    ensures walks { IfOk result (λ ends. Hears (NearTo (O.quads oracle.old) start.now) (O.quads oracle.old) (O.told oracle.old) (O.told oracle.new) steps.old steps.new (λ dataset. Walked dataset graph.now proper.old.keys proper.new.keys start.now ends)) }
-    ensures bound { IfOk result (λ ends. steps.new + 3 * length proper.old.keys ≤ steps.old + 3 * length proper.new.keys + (if ends then 0 else 3)) }
+    ensures walks { IfOk result (λ ends.
+        Hears (NearTo (O.quads oracle.old) start.now) (O.quads oracle.old) (O.told oracle.old)
+        (O.told oracle.new) steps.old steps.new
+        (λ dataset. Walked dataset graph.now proper.old.keys proper.new.keys start.now ends)) }
+    ensures bound { IfOk result (λ ends.
+        steps.new + 3 * length proper.old.keys
+        ≤ steps.old + 3 * length proper.new.keys + (if ends then 0 else 3)) }
     ensures few { OnOk result (IsFew proper.old.keys → IsFew proper.new.keys) }
     ensures quads_stay { O.quads oracle.new ≡ O.quads oracle.old }
 {
@@ -69,8 +74,13 @@ pub(crate) fn is_proper_node<O: Oracle, L: Ledger>(
     steps: &mut Steps<L>,
 ) -> Result<bool, Memory>
     requires graph { IsTrue (is_one_graph graph.now) }
-    ensures walks { IfOk result (λ found. Hears (NearTo (O.quads oracle.old) node.now) (O.quads oracle.old) (O.told oracle.old) (O.told oracle.new) steps.old steps.new (λ dataset. Examined dataset graph.now proper.old.keys proper.new.keys node.now found)) }
-    ensures bound { IfOk result (λ found. steps.new + 3 * length proper.old.keys ≤ steps.old + 3 * length proper.new.keys + (if found then 0 else 3)) }
+    ensures walks { IfOk result (λ found.
+        Hears (NearTo (O.quads oracle.old) node.now) (O.quads oracle.old) (O.told oracle.old)
+        (O.told oracle.new) steps.old steps.new (λ dataset.
+        Examined dataset graph.now proper.old.keys proper.new.keys node.now found)) }
+    ensures bound { IfOk result (λ found.
+        steps.new + 3 * length proper.old.keys
+        ≤ steps.old + 3 * length proper.new.keys + (if found then 0 else 3)) }
     ensures few { OnOk result (IsFew proper.old.keys → IsFew proper.new.keys) }
     ensures quads_stay { O.quads oracle.new ≡ O.quads oracle.old }
 {

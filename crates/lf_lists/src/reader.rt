@@ -48,8 +48,12 @@ pub(crate) enum Turn {
 /// Goes on behind the end of a list.
 pub(crate) fn end_list(reader: Reader) -> Result<Turn, Memory>
     requires nil { IsTrue (is_iri rdf_nil reader.rest) }
-    ensures turns { IfOk result (λ turn. (dataset : List Quad) (g : GraphRef) → GoesOn dataset g reader → TurnTells dataset g reader turn) }
-    ensures near { IfOk result (λ turn. (dataset : List Quad) (origin : TheTerm) → AreNear dataset origin reader → AreNearIn dataset origin turn) }
+    ensures turns { IfOk result (λ turn.
+        (dataset : List Quad) (g : GraphRef) → GoesOn dataset g reader →
+        TurnTells dataset g reader turn) }
+    ensures near { IfOk result (λ turn.
+        (dataset : List Quad) (origin : TheTerm) → AreNear dataset origin reader →
+        AreNearIn dataset origin turn) }
 {
     let Reader { open, items, rest } = reader;
     drop(rest);

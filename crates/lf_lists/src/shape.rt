@@ -81,14 +81,18 @@ fn count_under(iri: &str, quads: &[Quad]) -> usize
 
 // Whether the predicate of a quad is neither of two.
 fn is_neither(one: &str, two: &str, quad: &Quad) -> bool
-    ensures { result ≡ (not (is_iri one.now quad.now.predicate) && not (is_iri two.now quad.now.predicate)) }
+    ensures { result
+        ≡ (not (is_iri one.now quad.now.predicate) && not (is_iri two.now quad.now.predicate)) }
 {
     !is_iri(one, &quad.predicate) && !is_iri(two, &quad.predicate)
 }
 
 // How many quads have neither of two predicates.
 fn count_neither(one: &str, two: &str, quads: &[Quad]) -> usize
-    ensures { result ≡ length (filter (λ q. not (is_iri one.now q.predicate) && not (is_iri two.now q.predicate)) quads.now) }
+    ensures { result
+        ≡ length (filter
+        (λ q. not (is_iri one.now q.predicate) && not (is_iri two.now q.predicate))
+        quads.now) }
 {
     quads
         .iter()
@@ -216,7 +220,10 @@ fn blank_rest<O: Oracle, L: Ledger>(
 ) -> Result<Option<Term>, Memory>
     requires graph { IsTrue (is_one_graph graph.now) }
     requires blank { IsTrue (is_blank node.now) }
-    ensures rest { IfOk result (λ rest. Learns (NearTo (O.quads oracle.old) node.now) (O.quads oracle.old) (O.told oracle.old) (O.told oracle.new) steps.old steps.new (λ dataset. shaped_rest dataset graph.now node.now) rest) }
+    ensures rest { IfOk result (λ rest.
+        Learns (NearTo (O.quads oracle.old) node.now) (O.quads oracle.old) (O.told oracle.old)
+        (O.told oracle.new) steps.old steps.new
+        (λ dataset. shaped_rest dataset graph.now node.now) rest) }
     ensures bound { OnOk result (steps.new ≤ steps.old + 3) }
     ensures quads_stay { O.quads oracle.new ≡ O.quads oracle.old }
 {
@@ -246,7 +253,10 @@ pub(crate) fn shaped_rest<O: Oracle, L: Ledger>(
     steps: &mut Steps<L>,
 ) -> Result<Option<Term>, Memory>
     requires graph { IsTrue (is_one_graph graph.now) }
-    ensures rest { IfOk result (λ rest. Learns (NearTo (O.quads oracle.old) node.now) (O.quads oracle.old) (O.told oracle.old) (O.told oracle.new) steps.old steps.new (λ dataset. shaped_rest dataset graph.now node.now) rest) }
+    ensures rest { IfOk result (λ rest.
+        Learns (NearTo (O.quads oracle.old) node.now) (O.quads oracle.old) (O.told oracle.old)
+        (O.told oracle.new) steps.old steps.new
+        (λ dataset. shaped_rest dataset graph.now node.now) rest) }
     ensures bound { OnOk result (steps.new ≤ steps.old + 3) }
     ensures quads_stay { O.quads oracle.new ≡ O.quads oracle.old }
 {

@@ -26,8 +26,8 @@ use std::collections::BTreeSet;
 use std::sync::ledger::Ledger;
 
 /// The value of an object in a graph (JSON-LD 1.1 Processing Algorithms and API, section 8.2). The
-/// graph isn't the merged one. Of an IRI and a literal nothing is asked; a list is read in questions
-/// linear in its cells, the lists in it included.
+/// graph isn't the merged one. Of an IRI and a literal nothing is asked; a list is read in
+/// questions linear in its cells, the lists in it included.
 pub fn value_at<O: Oracle, L: Ledger>(
     alloc: Global,
     oracle: &mut O,
@@ -36,7 +36,10 @@ pub fn value_at<O: Oracle, L: Ledger>(
     steps: &mut Steps<L>,
 ) -> Result<Value, Memory>
     requires graph { IsTrue (is_one_graph graph.now) }
-    ensures value { IfOk result (λ found. Learns (NearTo (O.quads oracle.old) object.now) (O.quads oracle.old) (O.told oracle.old) (O.told oracle.new) steps.old steps.new (λ dataset. value_of dataset graph.now object.now) (value_data found)) }
+    ensures value { IfOk result (λ found.
+        Learns (NearTo (O.quads oracle.old) object.now) (O.quads oracle.old)
+        (O.told oracle.old) (O.told oracle.new) steps.old steps.new
+        (λ dataset. value_of dataset graph.now object.now) (value_data found)) }
     ensures quads_stay { O.quads oracle.new ≡ O.quads oracle.old }
 {
     let list = list_at(alloc, oracle, graph, object, steps)?;
@@ -60,7 +63,11 @@ pub fn list_at<O: Oracle, L: Ledger>(
     steps: &mut Steps<L>,
 ) -> Result<Option<ValueList>, Memory>
     requires graph { IsTrue (is_one_graph graph.now) }
-    ensures list { IfOk result (λ found. Learns (NearTo (O.quads oracle.old) object.now) (O.quads oracle.old) (O.told oracle.old) (O.told oracle.new) steps.old steps.new (λ dataset. list_in (value_of dataset graph.now object.now)) (option_map values_data found)) }
+    ensures list { IfOk result (λ found.
+        Learns (NearTo (O.quads oracle.old) object.now) (O.quads oracle.old)
+        (O.told oracle.old) (O.told oracle.new) steps.old steps.new
+        (λ dataset. list_in (value_of dataset graph.now object.now))
+        (option_map values_data found)) }
     ensures quads_stay { O.quads oracle.new ≡ O.quads oracle.old }
 {
     if is_nil(object) {
@@ -85,7 +92,10 @@ fn read_list<O: Oracle, L: Ledger>(
 ) -> Result<ValueList, Memory>
     requires graph { IsTrue (is_one_graph graph.now) }
     requires cell { IsTrue (is_cell (O.quads oracle.old) graph.now head.now) }
-    ensures reads { IfOk result (λ items. Hears (NearTo (O.quads oracle.old) head.now) (O.quads oracle.old) (O.told oracle.old) (O.told oracle.new) steps.old steps.new (λ dataset. ReadsAll dataset graph.now head.now items)) }
+    ensures reads { IfOk result (λ items.
+        Hears (NearTo (O.quads oracle.old) head.now) (O.quads oracle.old) (O.told oracle.old)
+        (O.told oracle.new) steps.old steps.new
+        (λ dataset. ReadsAll dataset graph.now head.now items)) }
     ensures quads_stay { O.quads oracle.new ≡ O.quads oracle.old }
 {
     let open = Vec::new(alloc);
@@ -111,8 +121,14 @@ fn turn<O: Oracle, L: Ledger>(
 ) -> Result<Turn, Memory>
     requires graph { IsTrue (is_one_graph graph.now) }
     requires goes { GoesOn (O.quads oracle.old) graph.now reader }
-    ensures turns { IfOk result (λ turned. Hears (NearTo (O.quads oracle.old) reader.rest) (O.quads oracle.old) (O.told oracle.old) (O.told oracle.new) steps.old steps.new (λ dataset. GoesOn dataset graph.now reader → TurnTells dataset graph.now reader turned)) }
-    ensures near { IfOk result (λ turned. (origin : TheTerm) → AreNear (O.quads oracle.old) origin reader → AreNearIn (O.quads oracle.old) origin turned) }
+    ensures turns { IfOk result (λ turned.
+        Hears (NearTo (O.quads oracle.old) reader.rest) (O.quads oracle.old)
+        (O.told oracle.old) (O.told oracle.new) steps.old steps.new
+        (λ dataset.
+        GoesOn dataset graph.now reader → TurnTells dataset graph.now reader turned)) }
+    ensures near { IfOk result (λ turned.
+        (origin : TheTerm) → AreNear (O.quads oracle.old) origin reader →
+        AreNearIn (O.quads oracle.old) origin turned) }
     ensures quads_stay { O.quads oracle.new ≡ O.quads oracle.old }
 {
     if is_nil(&reader.rest) {
@@ -134,8 +150,15 @@ fn read_cell<O: Oracle, L: Ledger>(
 ) -> Result<Reader, Memory>
     requires graph { IsTrue (is_one_graph graph.now) }
     requires cell { IsTrue (is_cell (O.quads oracle.old) graph.now reader.rest) }
-    ensures reads { IfOk result (λ after. Hears (NearTo (O.quads oracle.old) reader.rest) (O.quads oracle.old) (O.told oracle.old) (O.told oracle.new) steps.old steps.new (λ dataset. IsTrue (is_cell dataset graph.now reader.rest) → GoesOn dataset graph.now reader → StepsOn dataset graph.now reader after)) }
-    ensures near { IfOk result (λ after. (origin : TheTerm) → AreNear (O.quads oracle.old) origin reader → AreNear (O.quads oracle.old) origin after) }
+    ensures reads { IfOk result (λ after.
+        Hears (NearTo (O.quads oracle.old) reader.rest) (O.quads oracle.old)
+        (O.told oracle.old) (O.told oracle.new) steps.old steps.new
+        (λ dataset.
+        IsTrue (is_cell dataset graph.now reader.rest) → GoesOn dataset graph.now reader →
+        StepsOn dataset graph.now reader after)) }
+    ensures near { IfOk result (λ after.
+        (origin : TheTerm) → AreNear (O.quads oracle.old) origin reader →
+        AreNear (O.quads oracle.old) origin after) }
     ensures quads_stay { O.quads oracle.new ≡ O.quads oracle.old }
 {
     let parts = read_parts(alloc, oracle, graph, &reader.rest, steps)?;
@@ -158,7 +181,10 @@ fn read_parts<O: Oracle, L: Ledger>(
 ) -> Result<Parts, Memory>
     requires graph { IsTrue (is_one_graph graph.now) }
     requires cell { IsTrue (is_cell (O.quads oracle.old) graph.now cell.now) }
-    ensures parts { IfOk result (λ parts. Hears (NearTo (O.quads oracle.old) cell.now) (O.quads oracle.old) (O.told oracle.old) (O.told oracle.new) steps.old steps.new (λ dataset. ArePartsOf dataset graph.now cell.now parts)) }
+    ensures parts { IfOk result (λ parts.
+        Hears (NearTo (O.quads oracle.old) cell.now) (O.quads oracle.old) (O.told oracle.old)
+        (O.told oracle.new) steps.old steps.new
+        (λ dataset. ArePartsOf dataset graph.now cell.now parts)) }
     ensures quads_stay { O.quads oracle.new ≡ O.quads oracle.old }
 {
     let told = quads_out(alloc, oracle, graph, cell, steps)?;
@@ -182,7 +208,10 @@ fn is_list<O: Oracle, L: Ledger>(
     steps: &mut Steps<L>,
 ) -> Result<bool, Memory>
     requires graph { IsTrue (is_one_graph graph.now) }
-    ensures list { IfOk result (λ found. Learns (NearTo (O.quads oracle.old) item.now) (O.quads oracle.old) (O.told oracle.old) (O.told oracle.new) steps.old steps.new (λ dataset. ends_well dataset graph.now item.now) found) }
+    ensures list { IfOk result (λ found.
+        Learns (NearTo (O.quads oracle.old) item.now) (O.quads oracle.old) (O.told oracle.old)
+        (O.told oracle.new) steps.old steps.new
+        (λ dataset. ends_well dataset graph.now item.now) found) }
     ensures quads_stay { O.quads oracle.new ≡ O.quads oracle.old }
 {
     let mut known: Marks = BTreeSet::new(alloc);

@@ -13,7 +13,8 @@ use Rattle.def_framing.specs.Nearness.{reversed_in}
 
 -- a question is near one of these terms, for the properties of some `@reverse` maps
 abbrev pub IsNearOneBy : List Quad → List (List ℕ) → (Term → Type 0) → Question → Type 0
-IsNearOneBy dataset reversed Is question = (x : Term) × (Is x × NearQuestion dataset reversed x question)
+IsNearOneBy dataset reversed Is question =
+    (x : Term) × (Is x × NearQuestion dataset reversed x question)
 
 -- a question is near one of these terms, for a frame
 abbrev pub IsNearOneFor : List Quad → Nested → (Term → Type 0) → Question → Type 0

@@ -1,5 +1,5 @@
--- The rows of a frame's table: which map a number names for another map, and its properties as tests
--- (JSON-LD 1.1 Framing, section 4.1: the value of a property is a sub-frame).
+-- The rows of a frame's table: which map a number names for another map, and its properties as
+-- tests (JSON-LD 1.1 Framing, section 4.1: the value of a property is a sub-frame).
 use Rattle.std.specs.Prelude.{◌≡◌, ◌<◌, ◌&&◌, not, if◌then◌else◌, List, ℕ, Bool, true, false, ◌||◌, Option, Some, None, is_some, length, map}
 use Rattle.std.specs.List.{list_all, list_any}
 use Rattle.lf_rdf.specs.declared.question.GraphRef.{GraphRef}
@@ -18,7 +18,8 @@ use Rattle.def_framing.specs.Matching.{PropTest, accepts, id_matches, is_empty, 
 use Rattle.lf_match.specs.declared.verdict.Verdict.{Verdict}
 use Rattle.lf_match.specs.declared.verdict.Verdict.TheVariants as verdict
 
--- a map is the one that a number names for the map `at`: it stands later in the table, and the number stands for what it unfolds to
+-- a map is the one that a number names for the map `at`: it stands later in the table, and the
+-- number stands for what it unfolds to
 pub record IsRowFor (rows : List FrameNode) (at : ℕ) (number : Option ℕ) (later : ℕ) : Type 0 where
   pub follows : at < later
   pub within : later < length rows
@@ -51,20 +52,24 @@ row_tests views graph sub props = map (prop_test views graph sub) props
 
 -- one of the properties matches a node, by a view of it
 abbrev pub any_prop : Views → GraphRef → Numbered → View → List FrameProp → Bool
-any_prop views graph sub view props = list_any (λ p. prop_matches view (prop_test views graph sub p)) props
+any_prop views graph sub view props =
+    list_any (λ p. prop_matches view (prop_test views graph sub p)) props
 
 -- each matches, or the node may lack it
 abbrev pub all_props : Views → GraphRef → Numbered → View → List FrameProp → Bool
-all_props views graph sub view props = list_all (λ p. prop_allows view (prop_test views graph sub p)) props
+all_props views graph sub view props =
+    list_all (λ p. prop_allows view (prop_test views graph sub p)) props
 
 -- a property that is to be absent stands in the view
 abbrev pub is_unwanted : Numbered → View → FrameProp → Bool
-is_unwanted sub view p = is_match_none (sub_frame sub p.frame) && not (is_empty (values_under view p.property))
+is_unwanted sub view p =
+    is_match_none (sub_frame sub p.frame) && not (is_empty (values_under view p.property))
 
 -- a node may lack the property: it does, and the sub-frame has a default
 abbrev pub may_lack : Numbered → View → FrameProp → Bool
 may_lack sub view p =
-    is_some (flags_of (sub_frame sub p.frame)).fallback && not (not (is_empty (values_under view p.property)))
+    is_some (flags_of (sub_frame sub p.frame)).fallback
+    && not (not (is_empty (values_under view p.property)))
 
 -- matched exactly where a test fits
 abbrev pub fits_verdict : Bool → Verdict
@@ -79,13 +84,16 @@ abbrev pub props_verdict : Bool → Verdict
 props_verdict true = verdict.Matched
 props_verdict false = verdict.AnyProp
 
--- the verdict of a map's entries on a node, by whether an unwanted property stands there and whether the map has no property
+-- the verdict of a map's entries on a node, by whether an unwanted property stands there and
+-- whether the map has no property
 abbrev pub verdict_of : Bool → Bool → Flags → Term → List Term → Verdict
 verdict_of unwanted bare flags id types =
     if unwanted then verdict.Refused
-    else if flags.require_all then all_verdict (id_matches flags.ids id && types_match flags.types types)
+    else if flags.require_all then all_verdict
+    (id_matches flags.ids id && types_match flags.types types)
     else if tests_id flags.ids then fits_verdict (id_matches flags.ids id)
-    else if tests_types flags.types then fits_verdict (types_match flags.types types) else props_verdict bare
+    else if tests_types flags.types then fits_verdict (types_match flags.types types) else
+    props_verdict bare
 
 -- what a verdict on a node comes to, where the properties still have to be tried
 abbrev pub decided : Verdict → Views → GraphRef → Numbered → View → List FrameProp → Bool

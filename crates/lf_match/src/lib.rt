@@ -1,4 +1,5 @@
-//! Which nodes a frame matches and which values a sub-frame accepts (JSON-LD 1.1 Framing, section 4.2.2).
+//! Which nodes a frame matches and which values a sub-frame accepts (JSON-LD 1.1 Framing, section
+//! 4.2.2).
 #![tactic(auto)]
 
 mod matching;

@@ -1,5 +1,5 @@
-//! Matching of nodes and values over any `Nodes`. Each call asks some questions, and says what every dataset gives that answers
-//! them alike.
+//! Matching of nodes and values over any `Nodes`. Each call asks some questions, and says what
+//! every dataset gives that answers them alike.
 ghost use Rattle.std.specs.Prelude.{◌≡◌, IfOk, List, map};
 ghost use Rattle.std.specs.List.{list_any};
 ghost use Rattle.lf_model.specs.ValueBridge.{value_data};
@@ -25,8 +25,8 @@ use lf_rdf::{GraphRef, Term};
 use std::alloc::Global;
 use std::sync::ledger::Ledger;
 
-/// Whether the map `at` of a frame matches a node of a graph (JSON-LD 1.1 Framing, section 4.2.2). What is no key of the graph
-/// isn't matched.
+/// Whether the map `at` of a frame matches a node of a graph (JSON-LD 1.1 Framing, section 4.2.2).
+/// What is no key of the graph isn't matched.
 #[cycle(matching)]
 pub fn matches<N: Nodes, L: Ledger>(
     alloc: Global,
@@ -37,7 +37,12 @@ pub fn matches<N: Nodes, L: Ledger>(
     at: u32,
     steps: &mut Steps<L>,
 ) -> Result<bool, Memory>
-    ensures matched { IfOk result (λ found. Learns (IsNearOneFor (N.quads nodes.old) (nested frame.now.nodes at) (IsOfNode graph.now s.now)) (N.quads nodes.old) (N.told nodes.old) (N.told nodes.new) steps.old steps.new (λ dataset. matches (of_dataset dataset) graph.now (nested frame.now.nodes at) s.now) found) }
+    ensures matched { IfOk result (λ found.
+        Learns (IsNearOneFor (N.quads nodes.old) (nested frame.now.nodes at)
+        (IsOfNode graph.now s.now)) (N.quads nodes.old) (N.told nodes.old)
+        (N.told nodes.new) steps.old steps.new
+        (λ dataset. matches (of_dataset dataset) graph.now (nested frame.now.nodes at) s.now)
+        found) }
     ensures quads_stay { N.quads nodes.new ≡ N.quads nodes.old }
 {
     match nodes.node(alloc, graph, s, steps)? {
@@ -58,7 +63,12 @@ pub fn view_matches<N: Nodes, L: Ledger>(
     at: u32,
     steps: &mut Steps<L>,
 ) -> Result<bool, Memory>
-    ensures matched { IfOk result (λ found. Learns (IsNearOneFor (N.quads nodes.old) (nested frame.now.nodes at) (IsOfView graph.now (view_data view.now))) (N.quads nodes.old) (N.told nodes.old) (N.told nodes.new) steps.old steps.new (λ dataset. matches_viewed (of_dataset dataset) graph.now (nested frame.now.nodes at) s.now (view_data view.now)) found) }
+    ensures matched { IfOk result (λ found.
+        Learns (IsNearOneFor (N.quads nodes.old) (nested frame.now.nodes at)
+        (IsOfView graph.now (view_data view.now))) (N.quads nodes.old) (N.told nodes.old)
+        (N.told nodes.new) steps.old steps.new (λ dataset.
+        matches_viewed (of_dataset dataset) graph.now (nested frame.now.nodes at) s.now
+        (view_data view.now)) found) }
     ensures quads_stay { N.quads nodes.new ≡ N.quads nodes.old }
 {
     match frame.nodes.at(at as u64) {
@@ -86,7 +96,13 @@ fn all_allow<N: Nodes, L: Ledger>(
     props: &FramePropList,
     steps: &mut Steps<L>,
 ) -> Result<bool, Memory>
-    ensures allow { IfOk result (λ found. Learns (IsNearOneBy (N.quads nodes.old) (in_props (build_props (above at (nested frame.now.nodes)) props.now)) (IsOfView graph.now (view_data view.now))) (N.quads nodes.old) (N.told nodes.old) (N.told nodes.new) steps.old steps.new (λ dataset. all_props (of_dataset dataset) graph.now (above at (nested frame.now.nodes)) (view_data view.now) props.now) found) }
+    ensures allow { IfOk result (λ found.
+        Learns (IsNearOneBy (N.quads nodes.old)
+        (in_props (build_props (above at (nested frame.now.nodes)) props.now))
+        (IsOfView graph.now (view_data view.now))) (N.quads nodes.old) (N.told nodes.old)
+        (N.told nodes.new) steps.old steps.new (λ dataset.
+        all_props (of_dataset dataset) graph.now (above at (nested frame.now.nodes))
+        (view_data view.now) props.now) found) }
     ensures quads_stay { N.quads nodes.new ≡ N.quads nodes.old }
 {
     for prop in props.as_slice() {
@@ -109,7 +125,13 @@ fn any_matches<N: Nodes, L: Ledger>(
     props: &FramePropList,
     steps: &mut Steps<L>,
 ) -> Result<bool, Memory>
-    ensures matched { IfOk result (λ found. Learns (IsNearOneBy (N.quads nodes.old) (in_props (build_props (above at (nested frame.now.nodes)) props.now)) (IsOfView graph.now (view_data view.now))) (N.quads nodes.old) (N.told nodes.old) (N.told nodes.new) steps.old steps.new (λ dataset. any_prop (of_dataset dataset) graph.now (above at (nested frame.now.nodes)) (view_data view.now) props.now) found) }
+    ensures matched { IfOk result (λ found.
+        Learns (IsNearOneBy (N.quads nodes.old)
+        (in_props (build_props (above at (nested frame.now.nodes)) props.now))
+        (IsOfView graph.now (view_data view.now))) (N.quads nodes.old) (N.told nodes.old)
+        (N.told nodes.new) steps.old steps.new (λ dataset.
+        any_prop (of_dataset dataset) graph.now (above at (nested frame.now.nodes))
+        (view_data view.now) props.now) found) }
     ensures quads_stay { N.quads nodes.new ≡ N.quads nodes.old }
 {
     for prop in props.as_slice() {
@@ -132,7 +154,13 @@ fn prop_allows<N: Nodes, L: Ledger>(
     prop: &FrameProp,
     steps: &mut Steps<L>,
 ) -> Result<bool, Memory>
-    ensures allows { IfOk result (λ found. Learns (IsNearOneFor (N.quads nodes.old) (sub_frame (above at (nested frame.now.nodes)) prop.now.frame) (IsOfView graph.now (view_data view.now))) (N.quads nodes.old) (N.told nodes.old) (N.told nodes.new) steps.old steps.new (λ dataset. prop_allows (view_data view.now) (prop_test (of_dataset dataset) graph.now (above at (nested frame.now.nodes)) prop.now)) found) }
+    ensures allows { IfOk result (λ found.
+        Learns (IsNearOneFor (N.quads nodes.old)
+        (sub_frame (above at (nested frame.now.nodes)) prop.now.frame)
+        (IsOfView graph.now (view_data view.now))) (N.quads nodes.old) (N.told nodes.old)
+        (N.told nodes.new) steps.old steps.new (λ dataset.
+        prop_allows (view_data view.now) (prop_test (of_dataset dataset) graph.now
+        (above at (nested frame.now.nodes)) prop.now)) found) }
     ensures quads_stay { N.quads nodes.new ≡ N.quads nodes.old }
 {
     if lacks(frame, at, prop, view) {
@@ -141,7 +169,8 @@ fn prop_allows<N: Nodes, L: Ledger>(
     prop_matches(alloc, nodes, graph, view, frame, at, prop, steps)
 }
 
-// Whether a property of the map `at` matches: match-none where the node lacks it, another where its sub-frame accepts a value.
+// Whether a property of the map `at` matches: match-none where the node lacks it, another where its
+// sub-frame accepts a value.
 #[cycle(matching)]
 fn prop_matches<N: Nodes, L: Ledger>(
     alloc: Global,
@@ -153,7 +182,13 @@ fn prop_matches<N: Nodes, L: Ledger>(
     prop: &FrameProp,
     steps: &mut Steps<L>,
 ) -> Result<bool, Memory>
-    ensures matched { IfOk result (λ found. Learns (IsNearOneFor (N.quads nodes.old) (sub_frame (above at (nested frame.now.nodes)) prop.now.frame) (IsOfView graph.now (view_data view.now))) (N.quads nodes.old) (N.told nodes.old) (N.told nodes.new) steps.old steps.new (λ dataset. prop_matches (view_data view.now) (prop_test (of_dataset dataset) graph.now (above at (nested frame.now.nodes)) prop.now)) found) }
+    ensures matched { IfOk result (λ found.
+        Learns (IsNearOneFor (N.quads nodes.old)
+        (sub_frame (above at (nested frame.now.nodes)) prop.now.frame)
+        (IsOfView graph.now (view_data view.now))) (N.quads nodes.old) (N.told nodes.old)
+        (N.told nodes.new) steps.old steps.new (λ dataset.
+        prop_matches (view_data view.now) (prop_test (of_dataset dataset) graph.now
+        (above at (nested frame.now.nodes)) prop.now)) found) }
     ensures quads_stay { N.quads nodes.new ≡ N.quads nodes.old }
 {
     match later_row(frame, at, prop.frame) {
@@ -176,7 +211,14 @@ fn any_accepted<N: Nodes, L: Ledger>(
     at: u32,
     steps: &mut Steps<L>,
 ) -> Result<bool, Memory>
-    ensures accepted { IfOk result (λ found. Learns (IsNearOneFor (N.quads nodes.old) (nested frame.now.nodes at) (IsOfValues graph.now (map value_data values.now))) (N.quads nodes.old) (N.told nodes.old) (N.told nodes.new) steps.old steps.new (λ dataset. list_any (λ v. accepts (of_dataset dataset) graph.now (nested frame.now.nodes at) (value_data v)) values.now) found) }
+    ensures accepted { IfOk result (λ found.
+        Learns (IsNearOneFor (N.quads nodes.old) (nested frame.now.nodes at)
+        (IsOfValues graph.now (map value_data values.now))) (N.quads nodes.old)
+        (N.told nodes.old) (N.told nodes.new) steps.old steps.new
+        (λ dataset.
+        list_any (λ v.
+        accepts (of_dataset dataset) graph.now (nested frame.now.nodes at) (value_data v))
+        values.now) found) }
     ensures quads_stay { N.quads nodes.new ≡ N.quads nodes.old }
 {
     for value in values {
@@ -198,7 +240,12 @@ pub fn accepts<N: Nodes, L: Ledger>(
     at: u32,
     steps: &mut Steps<L>,
 ) -> Result<bool, Memory>
-    ensures accepted { IfOk result (λ found. Learns (IsNearOneFor (N.quads nodes.old) (nested frame.now.nodes at) (IsOfValue graph.now (value_data value.now))) (N.quads nodes.old) (N.told nodes.old) (N.told nodes.new) steps.old steps.new (λ dataset. accepts (of_dataset dataset) graph.now (nested frame.now.nodes at) (value_data value.now)) found) }
+    ensures accepted { IfOk result (λ found.
+        Learns (IsNearOneFor (N.quads nodes.old) (nested frame.now.nodes at)
+        (IsOfValue graph.now (value_data value.now))) (N.quads nodes.old) (N.told nodes.old)
+        (N.told nodes.new) steps.old steps.new (λ dataset.
+        accepts (of_dataset dataset) graph.now (nested frame.now.nodes at)
+        (value_data value.now)) found) }
     ensures quads_stay { N.quads nodes.new ≡ N.quads nodes.old }
 {
     match frame.nodes.at(at as u64) {
@@ -238,7 +285,14 @@ fn item_accepted<N: Nodes, L: Ledger>(
     item: Option<u32>,
     steps: &mut Steps<L>,
 ) -> Result<bool, Memory>
-    ensures accepted { IfOk result (λ found. Learns (IsNearOneBy (N.quads nodes.old) (in_kind (list_kind (above at (nested frame.now.nodes)) item)) (IsOfValues graph.now (map value_data items.now))) (N.quads nodes.old) (N.told nodes.old) (N.told nodes.new) steps.old steps.new (λ dataset. list_accepted (of_dataset dataset) graph.now (above at (nested frame.now.nodes)) item items.now) found) }
+    ensures accepted { IfOk result (λ found.
+        Learns (IsNearOneBy (N.quads nodes.old)
+        (in_kind (list_kind (above at (nested frame.now.nodes)) item))
+        (IsOfValues graph.now (map value_data items.now))) (N.quads nodes.old)
+        (N.told nodes.old) (N.told nodes.new) steps.old steps.new
+        (λ dataset.
+        list_accepted (of_dataset dataset) graph.now (above at (nested frame.now.nodes))
+        item items.now) found) }
     ensures quads_stay { N.quads nodes.new ≡ N.quads nodes.old }
 {
     match item {

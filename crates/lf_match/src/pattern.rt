@@ -6,7 +6,8 @@ use lf_base::{Same, Text};
 use lf_model::{PartTest, Scalar, ScalarList, ValuePattern};
 use lf_rdf::{Term, is_xsd_string};
 
-/// Whether a value pattern accepts a term: a literal that each part accepts (JSON-LD 1.1 Framing, section 4.2.5).
+/// Whether a value pattern accepts a term: a literal that each part accepts (JSON-LD 1.1 Framing,
+/// section 4.2.5).
 pub fn pattern_accepts(pattern: &ValuePattern, term: &Term) -> bool
     ensures { result ≡ accepts_literal pattern.now term.now }
 {

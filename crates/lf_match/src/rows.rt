@@ -1,4 +1,5 @@
-//! The rows of a frame's table: which map a number names, and the tests of a map that hold no sub-frame.
+//! The rows of a frame's table: which map a number names, and the tests of a map that hold no
+//! sub-frame.
 ghost use Rattle.std.specs.Prelude.{◌≡◌, ◌<◌, IfNone, IfSome, length, is_some};
 ghost use Rattle.std.specs.List.{list_any};
 ghost use Rattle.def_nested.specs.Nested.{flags_of, match_none};

@@ -25,7 +25,10 @@ pub enum Verdict {
 
 /// The verdict of the map `at` on a node (JSON-LD 1.1 Framing, section 4.2.2).
 pub fn row_verdict(frame: &Frame, at: u32, row: &FrameNode, s: &Term, view: &NodeView) -> Verdict
-    ensures { result ≡ verdict_of (list_any (is_unwanted (above at (nested frame.now.nodes)) (view_data view.now)) row.now.props) (is_empty row.now.props) (row_flags row.now) s.now view.now.types }
+    ensures { result
+        ≡ verdict_of (list_any
+        (is_unwanted (above at (nested frame.now.nodes)) (view_data view.now))
+        row.now.props) (is_empty row.now.props) (row_flags row.now) s.now view.now.types }
 {
     if any_unwanted(frame, at, &row.props, view) {
         Verdict::Refused
@@ -70,7 +73,9 @@ fn by_props(props: &FramePropList) -> Verdict
 }
 
 fn any_unwanted(frame: &Frame, at: u32, props: &FramePropList, view: &NodeView) -> bool
-    ensures { result ≡ list_any (is_unwanted (above at (nested frame.now.nodes)) (view_data view.now)) props.now }
+    ensures { result
+        ≡ list_any (is_unwanted (above at (nested frame.now.nodes)) (view_data view.now))
+        props.now }
 {
     props
         .as_slice()

@@ -1,4 +1,5 @@
--- The words that replies and printed texts have for kinds of bad lines, limits of documents and counts of a history.
+-- The words that replies and printed texts have for kinds of bad lines, limits of documents and
+-- counts of a history.
 use Rattle.std.specs.Prelude.{List, ℕ, codes}
 use Rattle.def_patch_texts.specs.declared.kind.LineKind.{LineKind}
 use Rattle.def_patch_texts.specs.declared.kind.LineKind.TheVariants as kind

@@ -1,4 +1,5 @@
-//! The words that replies and printed texts share: kinds of bad lines, limits of documents, and what a history counts.
+//! The words that replies and printed texts share: kinds of bad lines, limits of documents, and
+//! what a history counts.
 #![tactic(auto)]
 
 mod names;

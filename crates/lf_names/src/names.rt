@@ -1,4 +1,5 @@
-//! The words themselves. The replies of a session and the printed texts of the commands take them from here.
+//! The words themselves. The replies of a session and the printed texts of the commands take them
+//! from here.
 ghost use Rattle.std.specs.Prelude.{◌≡◌, ◌≤◌, length};
 ghost use Rattle.lf_names.specs.Names.{kind_name, counted_name, limit_name, limit_number};
 

@@ -12,11 +12,15 @@ use Rattle.lf_lists.specs.declared.known.KnownCells.{KnownCells}
 use Rattle.lf_lists.specs.Known.{Knows}
 
 -- whether a node of the graph is a key of it, and what is known then
-pub record IsAmong (dataset : List Quad) (g : GraphRef) (known : KnownCells) (node : Term) (found : Bool) : Type 0 where
+pub record IsAmong (dataset : List Quad) (g : GraphRef) (known : KnownCells) (node : Term)
+    (found : Bool) : Type 0 where
   pub knows : Knows dataset g known
   pub key : IsTrue (has term_eq (members dataset g) node) → found ≡ is_key dataset g node
 
 -- a node of the graph stands behind others where it is a key, and what is known then
-pub record IsPut (dataset : List Quad) (g : GraphRef) (known : KnownCells) (node : Term) (old new : List Term) : Type 0 where
+pub record IsPut (dataset : List Quad) (g : GraphRef) (known : KnownCells) (node : Term)
+    (old new : List Term) : Type 0 where
   pub knows : Knows dataset g known
-  pub put : IsTrue (has term_eq (members dataset g) node) → new ≡ old ++ filter (is_key dataset g) (node ∷ [])
+  pub put :
+      IsTrue (has term_eq (members dataset g) node) →
+      new ≡ old ++ filter (is_key dataset g) (node ∷ [])

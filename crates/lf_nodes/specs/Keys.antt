@@ -16,7 +16,8 @@ kept_if false quads = None
 
 -- the quads of a key that count in a graph
 abbrev pub key_quads : List Quad → GraphRef → Term → Option (List Quad)
-key_quads dataset g s = kept_if (is_key dataset g s) (quads_of (answers_of dataset) (enough dataset) g s)
+key_quads dataset g s =
+    kept_if (is_key dataset g s) (quads_of (answers_of dataset) (enough dataset) g s)
 
 -- a node is used in a graph, and isn't `rdf:nil`
 abbrev pub used_in : List Quad → GraphRef → Term → Bool

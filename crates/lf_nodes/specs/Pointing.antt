@@ -19,7 +19,8 @@ use Rattle.lf_lists.specs.Learning.{NearTo}
 -- a quad of a graph points at an object under a property, if the object's value is a reference
 abbrev pub is_arrow : GraphRef → List ℕ → Term → Quad → Bool
 is_arrow g property node q =
-    lies_in g q && (not (is_type_quad q) && (text_eq property (id_of q.predicate) && term_eq q.object node))
+    lies_in g q
+    && (not (is_type_quad q) && (text_eq property (id_of q.predicate) && term_eq q.object node))
 
 abbrev pub arrows : List Quad → GraphRef → List ℕ → Term → List Quad
 arrows dataset g property node = filter (is_arrow g property node) dataset
@@ -38,18 +39,21 @@ is_link q = is_iri rdf_first q.predicate || is_iri rdf_rest q.predicate
 
 -- the subject of a quad that tells no type is a key of the quad's graph
 abbrev pub subject_test : List Quad → Quad → Bool
-subject_test dataset q = is_node q.subject && (not (is_link q) || not (is_cell dataset (graph_of q) q.subject))
+subject_test dataset q =
+    is_node q.subject && (not (is_link q) || not (is_cell dataset (graph_of q) q.subject))
 
 -- only for the quads of list nodes is anything asked, near their subjects
 abbrev pub LinkNear : List Quad → Quad → Question → Type 0
 LinkNear dataset q question = IsTrue (is_link q) × NearTo dataset q.subject question
 
 abbrev pub AnyLinkNear : List Quad → List Quad → Question → Type 0
-AnyLinkNear dataset quads question = (q : Quad) × (IsTrue (has quad_eq quads q) × LinkNear dataset q question)
+AnyLinkNear dataset quads question =
+    (q : Quad) × (IsTrue (has quad_eq quads q) × LinkNear dataset q question)
 
 -- near the node, or near the subject of one of these quads
 abbrev pub NodeOrLinkNear : List Quad → Term → List Quad → Question → Type 0
-NodeOrLinkNear dataset node quads question = NearTo dataset node question ⊎ AnyLinkNear dataset quads question
+NodeOrLinkNear dataset node quads question =
+    NearTo dataset node question ⊎ AnyLinkNear dataset quads question
 
 -- the first of some quads
 abbrev pub first_quad : List Quad → Option Quad

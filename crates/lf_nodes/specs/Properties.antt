@@ -28,7 +28,8 @@ abbrev pub entry_cmp : Quad → Quad → Ordering
 entry_cmp = then_cmp (on property_of text_cmp) (on (λ q. q.object) term_cmp)
 
 pub entry_total : IsTotalOrder entry_cmp
-entry_total = then_total (on_total property_of text_strict.total) (on_total (λ (q : Quad). q.object) term_strict.total)
+entry_total = then_total (on_total property_of text_strict.total)
+    (on_total (λ (q : Quad). q.object) term_strict.total)
 
 pub entry_equivalence : IsEquivalence (eq_by_cmp entry_cmp)
 entry_equivalence = eq_by_cmp_equiv entry_total
@@ -42,13 +43,16 @@ pub record IsEntry (property text : List ℕ) (q : Quad) : Type 0 where
 abbrev pub under : List ℕ → Quad → Bool
 under property q = text_eq property (id_of q.predicate)
 
--- The quads of the properties of some quads, in order, one for each property and object. A test that looks at no more than these
--- finds one in both lists or in neither.
+-- The quads of the properties of some quads, in order, one for each property and object. A test
+-- that looks at no more than these finds one in both lists or in neither.
 pub record InPropertyOrder (quads made : List Quad) : Type 0 where
   pub in_order : IsTrue (ascends entry_cmp made)
-  pub members : (test : Quad → Bool) → ((q r : Quad) → IsTrue (is_eq (entry_cmp q r)) → test q ≡ test r)
+  pub members :
+      (test : Quad → Bool) → ((q r : Quad) → IsTrue (is_eq (entry_cmp q r)) → test q ≡ test r)
       → list_any test made ≡ list_any test (property_quads quads)
-  pub within : (test : Quad → Bool) → IsTrue (list_any test made) → IsTrue (list_any test (property_quads quads))
+  pub within :
+      (test : Quad → Bool) → IsTrue (list_any test made) →
+      IsTrue (list_any test (property_quads quads))
 
 -- the value of a quad's object, in the quad's graph
 abbrev pub quad_value : List Quad → Quad → ListValue
@@ -57,7 +61,8 @@ quad_value dataset q = value_of dataset (graph_of q) q.object
 -- the properties of some quads with the values of their quads
 abbrev pub gathered : (Quad → ListValue) → List Quad → List ViewProperty
 gathered value quads =
-    map (λ p. record { property = p; values = map value (filter (under p) quads) }) (properties_in quads)
+    map (λ p. record { property = p; values = map value (filter (under p) quads) })
+    (properties_in quads)
 
 -- the objects of some quads are near a term
 abbrev pub AreNear : List Quad → Term → List Quad → Type 0
@@ -65,7 +70,8 @@ AreNear dataset x quads = (q : Quad) → IsTrue (has quad_eq quads q) → Near d
 
 -- a property with the values of some quads
 abbrev pub valued : List Quad → List ℕ → List Quad → ViewProperty
-valued dataset property quads = record { property = property; values = map (quad_value dataset) quads }
+valued dataset property quads =
+    record { property = property; values = map (quad_value dataset) quads }
 
 -- some quads are in a dataset
 abbrev pub AreHeld : List Quad → List Quad → Type 0

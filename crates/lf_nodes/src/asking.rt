@@ -1,4 +1,5 @@
-//! Single questions for the quads of a subject, the quads that point at an object and the nodes of a graph.
+//! Single questions for the quads of a subject, the quads that point at an object and the nodes of
+//! a graph.
 ghost use Rattle.std.specs.Prelude.{◌≡◌, ◌+◌, [], ◌∷◌, IfOk, IsTrue, OnOk};
 ghost use Rattle.lf_rdf.specs.declared.question.Answer.TheVariants.{Quads, Terms};
 ghost use Rattle.def_datasets.specs.Questions.{answer, inward, members, out_any};
@@ -78,7 +79,10 @@ pub fn quads_of_subject<O: Oracle, L: Ledger>(
     subject: &Term,
     steps: &mut Steps<L>,
 ) -> Result<QuadList, Memory>
-    ensures quads { IfOk result (λ found. Learns (NearTo (O.quads oracle.old) subject.now) (O.quads oracle.old) (O.told oracle.old) (O.told oracle.new) steps.old steps.new (λ dataset. out_any dataset subject.now) found) }
+    ensures quads { IfOk result (λ found.
+        Learns (NearTo (O.quads oracle.old) subject.now) (O.quads oracle.old)
+        (O.told oracle.old) (O.told oracle.new) steps.old steps.new
+        (λ dataset. out_any dataset subject.now) found) }
     ensures quads_stay { O.quads oracle.new ≡ O.quads oracle.old }
 {
     let question = Question::OutAny(subject.copy(alloc)?);
@@ -96,7 +100,10 @@ pub fn quads_inward<O: Oracle, L: Ledger>(
     object: &Term,
     steps: &mut Steps<L>,
 ) -> Result<QuadList, Memory>
-    ensures quads { IfOk result (λ found. Learns (NearTo (O.quads oracle.old) object.now) (O.quads oracle.old) (O.told oracle.old) (O.told oracle.new) steps.old steps.new (λ dataset. inward dataset graph.now predicate.now object.now) found) }
+    ensures quads { IfOk result (λ found.
+        Learns (NearTo (O.quads oracle.old) object.now) (O.quads oracle.old)
+        (O.told oracle.old) (O.told oracle.new) steps.old steps.new
+        (λ dataset. inward dataset graph.now predicate.now object.now) found) }
     ensures quads_stay { O.quads oracle.new ≡ O.quads oracle.old }
 {
     let question = inward_question(alloc, graph, predicate, object)?;
@@ -137,7 +144,10 @@ pub fn nodes_in<O: Oracle, L: Ledger>(
     steps: &mut Steps<L>,
 ) -> Result<TermList, Memory>
     requires graph { IsTrue (is_one_graph graph.now) }
-    ensures terms { IfOk result (λ found. Learns (IsNearMembers (O.quads oracle.old) graph.now) (O.quads oracle.old) (O.told oracle.old) (O.told oracle.new) steps.old steps.new (λ dataset. members dataset graph.now) found) }
+    ensures terms { IfOk result (λ found.
+        Learns (IsNearMembers (O.quads oracle.old) graph.now) (O.quads oracle.old)
+        (O.told oracle.old) (O.told oracle.new) steps.old steps.new
+        (λ dataset. members dataset graph.now) found) }
     ensures quads_stay { O.quads oracle.new ≡ O.quads oracle.old }
 {
     let question = Question::Members(graph.copy(alloc)?);

@@ -53,7 +53,9 @@ pub(crate) fn home_of<O: Oracle, L: Ledger>(
     node: &Term,
     steps: &mut Steps<L>,
 ) -> Result<Option<GraphRef>, Memory>
-    ensures home { IfOk result (λ found. Hears (NearTo (O.quads oracle.old) node.now) (O.quads oracle.old) (O.told oracle.old) (O.told oracle.new) steps.old steps.new (λ dataset. IsHome dataset node.now found)) }
+    ensures home { IfOk result (λ found.
+        Hears (NearTo (O.quads oracle.old) node.now) (O.quads oracle.old) (O.told oracle.old)
+        (O.told oracle.new) steps.old steps.new (λ dataset. IsHome dataset node.now found)) }
     ensures quads_stay { O.quads oracle.new ≡ O.quads oracle.old }
 {
     if !is_blank(node) {
@@ -77,7 +79,10 @@ fn home_by<O: Oracle, L: Ledger>(
     one: &Quad,
     steps: &mut Steps<L>,
 ) -> Result<Option<GraphRef>, Memory>
-    ensures home { IfOk result (λ found. Hears (NearTo (O.quads oracle.old) node.now) (O.quads oracle.old) (O.told oracle.old) (O.told oracle.new) steps.old steps.new (λ dataset. uses dataset node.now ≡ one.now ∷ [] → IsHome dataset node.now found)) }
+    ensures home { IfOk result (λ found.
+        Hears (NearTo (O.quads oracle.old) node.now) (O.quads oracle.old) (O.told oracle.old)
+        (O.told oracle.new) steps.old steps.new
+        (λ dataset. uses dataset node.now ≡ one.now ∷ [] → IsHome dataset node.now found)) }
     ensures quads_stay { O.quads oracle.new ≡ O.quads oracle.old }
 {
     let graph = graph_of(alloc, one)?;

@@ -52,7 +52,10 @@ fn is_used_in<O: Oracle, L: Ledger>(
     node: &Term,
     steps: &mut Steps<L>,
 ) -> Result<bool, Memory>
-    ensures used { IfOk result (λ found. Learns (NearTo (O.quads oracle.old) node.now) (O.quads oracle.old) (O.told oracle.old) (O.told oracle.new) steps.old steps.new (λ dataset. used_in dataset graph.now node.now) found) }
+    ensures used { IfOk result (λ found.
+        Learns (NearTo (O.quads oracle.old) node.now) (O.quads oracle.old) (O.told oracle.old)
+        (O.told oracle.new) steps.old steps.new
+        (λ dataset. used_in dataset graph.now node.now) found) }
     ensures quads_stay { O.quads oracle.new ≡ O.quads oracle.old }
 {
     if is_nil(node) {
@@ -70,7 +73,10 @@ fn is_name_in<O: Oracle, L: Ledger>(
     node: &Term,
     steps: &mut Steps<L>,
 ) -> Result<bool, Memory>
-    ensures names { IfOk result (λ found. Learns (NearTo (O.quads oracle.old) node.now) (O.quads oracle.old) (O.told oracle.old) (O.told oracle.new) steps.old steps.new (λ dataset. names_in dataset graph.now node.now) found) }
+    ensures names { IfOk result (λ found.
+        Learns (NearTo (O.quads oracle.old) node.now) (O.quads oracle.old) (O.told oracle.old)
+        (O.told oracle.new) steps.old steps.new
+        (λ dataset. names_in dataset graph.now node.now) found) }
     ensures quads_stay { O.quads oracle.new ≡ O.quads oracle.old }
 {
     if !is_default(graph) {
@@ -79,8 +85,8 @@ fn is_name_in<O: Oracle, L: Ledger>(
     is_named(alloc, oracle, node, steps)
 }
 
-/// Whether a node that has no quads of its own in a graph, and isn't a cell there, is a key of it, by
-/// up to two questions.
+/// Whether a node that has no quads of its own in a graph, and isn't a cell there, is a key of it,
+/// by up to two questions.
 pub(crate) fn is_key_by_others<O: Oracle, L: Ledger>(
     alloc: Global,
     oracle: &mut O,
@@ -88,7 +94,11 @@ pub(crate) fn is_key_by_others<O: Oracle, L: Ledger>(
     node: &Term,
     steps: &mut Steps<L>,
 ) -> Result<bool, Memory>
-    ensures key { IfOk result (λ found. Learns (NearTo (O.quads oracle.old) node.now) (O.quads oracle.old) (O.told oracle.old) (O.told oracle.new) steps.old steps.new (λ dataset. used_in dataset graph.now node.now || names_in dataset graph.now node.now) found) }
+    ensures key { IfOk result (λ found.
+        Learns (NearTo (O.quads oracle.old) node.now) (O.quads oracle.old) (O.told oracle.old)
+        (O.told oracle.new) steps.old steps.new
+        (λ dataset. used_in dataset graph.now node.now || names_in dataset graph.now node.now)
+        found) }
     ensures quads_stay { O.quads oracle.new ≡ O.quads oracle.old }
 {
     let used = is_used_in(alloc, oracle, graph, node, steps)?;
@@ -109,7 +119,10 @@ pub(crate) fn quads_of_key<O: Oracle, L: Ledger>(
     steps: &mut Steps<L>,
 ) -> Result<Option<QuadList>, Memory>
     requires graph { IsTrue (is_one_graph graph.now) }
-    ensures quads { IfOk result (λ found. Learns (NearTo (O.quads oracle.old) node.now) (O.quads oracle.old) (O.told oracle.old) (O.told oracle.new) steps.old steps.new (λ dataset. key_quads dataset graph.now node.now) found) }
+    ensures quads { IfOk result (λ found.
+        Learns (NearTo (O.quads oracle.old) node.now) (O.quads oracle.old) (O.told oracle.old)
+        (O.told oracle.new) steps.old steps.new
+        (λ dataset. key_quads dataset graph.now node.now) found) }
     ensures quads_stay { O.quads oracle.new ≡ O.quads oracle.old }
 {
     if !is_node(node) {

@@ -42,7 +42,10 @@ fn has_key_quads<O: Oracle, L: Ledger>(
     steps: &mut Steps<L>,
 ) -> Result<bool, Memory>
     requires graph { IsTrue (is_one_graph graph.now) }
-    ensures key { IfOk result (λ found. Learns (NearTo (O.quads oracle.old) node.now) (O.quads oracle.old) (O.told oracle.old) (O.told oracle.new) steps.old steps.new (λ dataset. is_key dataset graph.now node.now) found) }
+    ensures key { IfOk result (λ found.
+        Learns (NearTo (O.quads oracle.old) node.now) (O.quads oracle.old) (O.told oracle.old)
+        (O.told oracle.new) steps.old steps.new (λ dataset. is_key dataset graph.now node.now)
+        found) }
     ensures quads_stay { O.quads oracle.new ≡ O.quads oracle.old }
 {
     let told = quads_of_key(alloc, oracle, graph, node, steps)?;
@@ -60,7 +63,11 @@ fn is_key_among<O: Oracle, L: Ledger>(
 ) -> Result<bool, Memory>
     requires graph { IsTrue (is_one_graph graph.now) }
     requires knows { Knows (O.quads oracle.old) graph.now known.old }
-    ensures key { IfOk result (λ found. Hears (NearTo (O.quads oracle.old) node.now) (O.quads oracle.old) (O.told oracle.old) (O.told oracle.new) steps.old steps.new (λ dataset. Knows dataset graph.now known.old → IsAmong dataset graph.now known.new node.now found)) }
+    ensures key { IfOk result (λ found.
+        Hears (NearTo (O.quads oracle.old) node.now) (O.quads oracle.old) (O.told oracle.old)
+        (O.told oracle.new) steps.old steps.new (λ dataset.
+        Knows dataset graph.now known.old →
+        IsAmong dataset graph.now known.new node.now found)) }
     ensures quads_stay { O.quads oracle.new ≡ O.quads oracle.old }
 {
     if !is_node(node) {
@@ -86,7 +93,11 @@ fn put_key<O: Oracle, L: Ledger>(
 ) -> Result<(), Memory>
     requires graph { IsTrue (is_one_graph graph.now) }
     requires knows { Knows (O.quads oracle.old) graph.now known.old }
-    ensures put { OnOk result (Hears (NearTo (O.quads oracle.old) node.now) (O.quads oracle.old) (O.told oracle.old) (O.told oracle.new) steps.old steps.new (λ dataset. Knows dataset graph.now known.old → IsPut dataset graph.now known.new node.now found.old found.new)) }
+    ensures put { OnOk result (Hears (NearTo (O.quads oracle.old) node.now) (O.quads oracle.old)
+        (O.told oracle.old) (O.told oracle.new) steps.old steps.new
+        (λ dataset.
+        Knows dataset graph.now known.old →
+        IsPut dataset graph.now known.new node.now found.old found.new)) }
     ensures quads_stay { O.quads oracle.new ≡ O.quads oracle.old }
 {
     let key = is_key_among(alloc, oracle, graph, node, known, steps)?;
@@ -108,7 +119,11 @@ fn put_keys<O: Oracle, L: Ledger>(
 ) -> Result<(), Memory>
     requires graph { IsTrue (is_one_graph graph.now) }
     requires nodes { nodes.now ≡ members (O.quads oracle.old) graph.now }
-    ensures put { OnOk result (Hears (IsNearMembers (O.quads oracle.old) graph.now) (O.quads oracle.old) (O.told oracle.old) (O.told oracle.new) steps.old steps.new (λ dataset. nodes.now ≡ members dataset graph.now → found.new ≡ found.old ++ keys dataset graph.now)) }
+    ensures put { OnOk result (Hears (IsNearMembers (O.quads oracle.old) graph.now) (O.quads oracle.old)
+        (O.told oracle.old) (O.told oracle.new) steps.old steps.new
+        (λ dataset.
+        nodes.now ≡ members dataset graph.now →
+        found.new ≡ found.old ++ keys dataset graph.now)) }
     ensures quads_stay { O.quads oracle.new ≡ O.quads oracle.old }
 {
     let mut known = KnownCells::new(alloc);
@@ -127,7 +142,9 @@ fn put_keys_of<O: Oracle, L: Ledger>(
     steps: &mut Steps<L>,
 ) -> Result<(), Memory>
     requires graph { IsTrue (is_one_graph graph.now) }
-    ensures put { OnOk result (Hears (IsNearMembers (O.quads oracle.old) graph.now) (O.quads oracle.old) (O.told oracle.old) (O.told oracle.new) steps.old steps.new (λ dataset. found.new ≡ found.old ++ keys dataset graph.now)) }
+    ensures put { OnOk result (Hears (IsNearMembers (O.quads oracle.old) graph.now) (O.quads oracle.old)
+        (O.told oracle.old) (O.told oracle.new) steps.old steps.new
+        (λ dataset. found.new ≡ found.old ++ keys dataset graph.now)) }
     ensures quads_stay { O.quads oracle.new ≡ O.quads oracle.old }
 {
     let nodes = nodes_in(alloc, oracle, graph, steps)?;
@@ -143,7 +160,10 @@ fn keys_of<O: Oracle, L: Ledger>(
     steps: &mut Steps<L>,
 ) -> Result<TermList, Memory>
     requires graph { IsTrue (is_one_graph graph.now) }
-    ensures keys { IfOk result (λ found. Learns (IsNearMembers (O.quads oracle.old) graph.now) (O.quads oracle.old) (O.told oracle.old) (O.told oracle.new) steps.old steps.new (λ dataset. keys dataset graph.now) found) }
+    ensures keys { IfOk result (λ found.
+        Learns (IsNearMembers (O.quads oracle.old) graph.now) (O.quads oracle.old)
+        (O.told oracle.old) (O.told oracle.new) steps.old steps.new
+        (λ dataset. keys dataset graph.now) found) }
     ensures quads_stay { O.quads oracle.new ≡ O.quads oracle.old }
 {
     let mut found = TermList::new(alloc);
@@ -159,7 +179,9 @@ fn put_named_keys<O: Oracle, L: Ledger>(
     found: &mut TermList,
     steps: &mut Steps<L>,
 ) -> Result<(), Memory>
-    ensures put { OnOk result (Hears (IsNearMembers (O.quads oracle.old) Merged) (O.quads oracle.old) (O.told oracle.old) (O.told oracle.new) steps.old steps.new (λ dataset. found.new ≡ found.old ++ named_keys dataset name.now)) }
+    ensures put { OnOk result (Hears (IsNearMembers (O.quads oracle.old) Merged) (O.quads oracle.old)
+        (O.told oracle.old) (O.told oracle.new) steps.old steps.new
+        (λ dataset. found.new ≡ found.old ++ named_keys dataset name.now)) }
     ensures quads_stay { O.quads oracle.new ≡ O.quads oracle.old }
 {
     let is = is_named(alloc, oracle, name, steps)?;
@@ -179,7 +201,9 @@ fn all_named_keys<O: Oracle, L: Ledger>(
     found: &mut TermList,
     steps: &mut Steps<L>,
 ) -> Result<(), Memory>
-    ensures put { OnOk result (Hears (IsNearMembers (O.quads oracle.old) Merged) (O.quads oracle.old) (O.told oracle.old) (O.told oracle.new) steps.old steps.new (λ dataset. found.new ≡ found.old ++ flat_map (named_keys dataset) names.now)) }
+    ensures put { OnOk result (Hears (IsNearMembers (O.quads oracle.old) Merged) (O.quads oracle.old)
+        (O.told oracle.old) (O.told oracle.new) steps.old steps.new
+        (λ dataset. found.new ≡ found.old ++ flat_map (named_keys dataset) names.now)) }
     ensures quads_stay { O.quads oracle.new ≡ O.quads oracle.old }
 {
     for name in names {
@@ -205,7 +229,12 @@ fn keys_of_all<O: Oracle, L: Ledger>(
     oracle: &mut O,
     steps: &mut Steps<L>,
 ) -> Result<TermList, Memory>
-    ensures keys { IfOk result (λ found. Hears (IsNearMembers (O.quads oracle.old) Merged) (O.quads oracle.old) (O.told oracle.old) (O.told oracle.new) steps.old steps.new (λ dataset. found ≡ keys dataset Default ++ flat_map (named_keys dataset) (members dataset Default))) }
+    ensures keys { IfOk result (λ found.
+        Hears (IsNearMembers (O.quads oracle.old) Merged) (O.quads oracle.old)
+        (O.told oracle.old) (O.told oracle.new) steps.old steps.new
+        (λ dataset.
+        found
+        ≡ keys dataset Default ++ flat_map (named_keys dataset) (members dataset Default))) }
     ensures quads_stay { O.quads oracle.new ≡ O.quads oracle.old }
 {
     let nodes = nodes_in(alloc, oracle, &GraphRef::Default, steps)?;
@@ -228,7 +257,10 @@ fn merged_keys<O: Oracle, L: Ledger>(
     oracle: &mut O,
     steps: &mut Steps<L>,
 ) -> Result<TermList, Memory>
-    ensures keys { IfOk result (λ found. Learns (IsNearMembers (O.quads oracle.old) Merged) (O.quads oracle.old) (O.told oracle.old) (O.told oracle.new) steps.old steps.new (λ dataset. keys dataset Merged) found) }
+    ensures keys { IfOk result (λ found.
+        Learns (IsNearMembers (O.quads oracle.old) Merged) (O.quads oracle.old)
+        (O.told oracle.old) (O.told oracle.new) steps.old steps.new
+        (λ dataset. keys dataset Merged) found) }
     ensures quads_stay { O.quads oracle.new ≡ O.quads oracle.old }
 {
     let all = keys_of_all(alloc, oracle, steps)?;
@@ -246,7 +278,10 @@ pub fn members_of<O: Oracle, L: Ledger>(
     graph: &GraphRef,
     steps: &mut Steps<L>,
 ) -> Result<TermList, Memory>
-    ensures keys { IfOk result (λ found. Learns (IsNearMembers (O.quads oracle.old) graph.now) (O.quads oracle.old) (O.told oracle.old) (O.told oracle.new) steps.old steps.new (λ dataset. keys dataset graph.now) found) }
+    ensures keys { IfOk result (λ found.
+        Learns (IsNearMembers (O.quads oracle.old) graph.now) (O.quads oracle.old)
+        (O.told oracle.old) (O.told oracle.new) steps.old steps.new
+        (λ dataset. keys dataset graph.now) found) }
     ensures quads_stay { O.quads oracle.new ≡ O.quads oracle.old }
 {
     match graph {

@@ -52,7 +52,10 @@ fn is_used_away<O: Oracle, L: Ledger>(
     node: &Term,
     steps: &mut Steps<L>,
 ) -> Result<bool, Memory>
-    ensures used { IfOk result (λ found. Learns (NearTo (O.quads oracle.old) node.now) (O.quads oracle.old) (O.told oracle.old) (O.told oracle.new) steps.old steps.new (λ dataset. used_away dataset home.now node.now) found) }
+    ensures used { IfOk result (λ found.
+        Learns (NearTo (O.quads oracle.old) node.now) (O.quads oracle.old) (O.told oracle.old)
+        (O.told oracle.new) steps.old steps.new
+        (λ dataset. used_away dataset home.now node.now) found) }
     ensures quads_stay { O.quads oracle.new ≡ O.quads oracle.old }
 {
     if is_nil(node) {
@@ -62,8 +65,8 @@ fn is_used_away<O: Oracle, L: Ledger>(
     Ok(any_away(home, uses.as_slice()))
 }
 
-// Whether a node that has no quads of its own, but where it is a cell, is a key of the merged graph;
-// by up to two questions.
+// Whether a node that has no quads of its own, but where it is a cell, is a key of the merged
+// graph; by up to two questions.
 fn is_key_by_others<O: Oracle, L: Ledger>(
     alloc: Global,
     oracle: &mut O,
@@ -71,7 +74,10 @@ fn is_key_by_others<O: Oracle, L: Ledger>(
     node: &Term,
     steps: &mut Steps<L>,
 ) -> Result<bool, Memory>
-    ensures key { IfOk result (λ found. Learns (NearTo (O.quads oracle.old) node.now) (O.quads oracle.old) (O.told oracle.old) (O.told oracle.new) steps.old steps.new (λ dataset. named dataset node.now || used_away dataset home.now node.now) found) }
+    ensures key { IfOk result (λ found.
+        Learns (NearTo (O.quads oracle.old) node.now) (O.quads oracle.old) (O.told oracle.old)
+        (O.told oracle.new) steps.old steps.new
+        (λ dataset. named dataset node.now || used_away dataset home.now node.now) found) }
     ensures quads_stay { O.quads oracle.new ≡ O.quads oracle.old }
 {
     let names = is_named(alloc, oracle, node, steps)?;
@@ -90,7 +96,10 @@ pub(crate) fn merged_quads<O: Oracle, L: Ledger>(
     node: &Term,
     steps: &mut Steps<L>,
 ) -> Result<Option<QuadList>, Memory>
-    ensures quads { IfOk result (λ found. Learns (NearTo (O.quads oracle.old) node.now) (O.quads oracle.old) (O.told oracle.old) (O.told oracle.new) steps.old steps.new (λ dataset. key_quads dataset Merged node.now) found) }
+    ensures quads { IfOk result (λ found.
+        Learns (NearTo (O.quads oracle.old) node.now) (O.quads oracle.old) (O.told oracle.old)
+        (O.told oracle.new) steps.old steps.new (λ dataset. key_quads dataset Merged node.now)
+        found) }
     ensures quads_stay { O.quads oracle.new ≡ O.quads oracle.old }
 {
     if !is_node(node) {
@@ -110,7 +119,10 @@ fn merged_among<O: Oracle, L: Ledger>(
     steps: &mut Steps<L>,
 ) -> Result<Option<QuadList>, Memory>
     requires node { IsTrue (is_node node.now) }
-    ensures quads { IfOk result (λ found. Hears (NearTo (O.quads oracle.old) node.now) (O.quads oracle.old) (O.told oracle.old) (O.told oracle.new) steps.old steps.new (λ dataset. told ≡ out_any dataset node.now → found ≡ key_quads dataset Merged node.now)) }
+    ensures quads { IfOk result (λ found.
+        Hears (NearTo (O.quads oracle.old) node.now) (O.quads oracle.old) (O.told oracle.old)
+        (O.told oracle.new) steps.old steps.new (λ dataset.
+        told ≡ out_any dataset node.now → found ≡ key_quads dataset Merged node.now)) }
     ensures quads_stay { O.quads oracle.new ≡ O.quads oracle.old }
 {
     let home = home_of(alloc, oracle, node, steps)?;

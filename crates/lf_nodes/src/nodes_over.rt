@@ -33,8 +33,9 @@ impl<O: Oracle> Nodes for NodesOver<'_, O> {
 
     ghost told = { λ nodes. O.told nodes.oracle.now };
 
-    /// The view of a node. For a key with n quads there it takes some n log n comparisons of texts, up to four questions and those
-    /// for a cell of the node, and for each object that is a blank node those for a cell, and for its list.
+    /// The view of a node. For a key with n quads there it takes some n log n comparisons of texts,
+    /// up to four questions and those for a cell of the node, and for each object that is a blank
+    /// node those for a cell, and for its list.
     fn node<L: Ledger>(
         &mut self,
         alloc: Global,
@@ -46,8 +47,9 @@ impl<O: Oracle> Nodes for NodesOver<'_, O> {
         Ok(found)
     }
 
-    /// The keys of a graph. One question gives its nodes; only of blank nodes and of `rdf:nil` are more asked. For the merged graph
-    /// the nodes of each graph are asked for, and of each node of the default graph whether it names one.
+    /// The keys of a graph. One question gives its nodes; only of blank nodes and of `rdf:nil` are
+    /// more asked. For the merged graph the nodes of each graph are asked for, and of each node of
+    /// the default graph whether it names one.
     fn members<L: Ledger>(
         &mut self,
         alloc: Global,
@@ -58,8 +60,9 @@ impl<O: Oracle> Nodes for NodesOver<'_, O> {
         Ok(found)
     }
 
-    /// The keys that point at a node. One question gives the quads that may, those for a cell tell whether the node is one, and
-    /// only under `rdf:first` and `rdf:rest` are the subjects tested too.
+    /// The keys that point at a node. One question gives the quads that may, those for a cell tell
+    /// whether the node is one, and only under `rdf:first` and `rdf:rest` are the subjects tested
+    /// too.
     fn pointing<L: Ledger>(
         &mut self,
         alloc: Global,

@@ -100,7 +100,8 @@ fn put_arrow(
     node: &Term,
     quad: Quad,
 ) -> Result<(), Memory>
-    ensures { OnOk result (found.new.items ≡ found.old.items ++ filter (is_arrow graph.now property.now node.now) (quad ∷ [])) }
+    ensures { OnOk result (found.new.items
+        ≡ found.old.items ++ filter (is_arrow graph.now property.now node.now) (quad ∷ [])) }
 {
     let id = id_text(alloc, &quad.predicate)?;
     if !is_arrow(graph, property, &id, node, &quad) {
@@ -137,7 +138,10 @@ fn arrows_to<O: Oracle, L: Ledger>(
     steps: &mut Steps<L>,
 ) -> Result<QuadList, Memory>
     requires node { IsTrue (is_node node.now) }
-    ensures arrows { IfOk result (λ found. Learns (NearTo (O.quads oracle.old) node.now) (O.quads oracle.old) (O.told oracle.old) (O.told oracle.new) steps.old steps.new (λ dataset. arrows dataset graph.now property.now node.now) found) }
+    ensures arrows { IfOk result (λ found.
+        Learns (NearTo (O.quads oracle.old) node.now) (O.quads oracle.old) (O.told oracle.old)
+        (O.told oracle.new) steps.old steps.new
+        (λ dataset. arrows dataset graph.now property.now node.now) found) }
     ensures quads_stay { O.quads oracle.new ≡ O.quads oracle.old }
 {
     if is_plain(property) {
@@ -158,7 +162,10 @@ fn is_referred<O: Oracle, L: Ledger>(
     node: &Term,
     steps: &mut Steps<L>,
 ) -> Result<bool, Memory>
-    ensures refers { IfOk result (λ found. Learns (NearTo (O.quads oracle.old) node.now) (O.quads oracle.old) (O.told oracle.old) (O.told oracle.new) steps.old steps.new (λ dataset. is_referred dataset (graph_of quad.now) node.now) found) }
+    ensures refers { IfOk result (λ found.
+        Learns (NearTo (O.quads oracle.old) node.now) (O.quads oracle.old) (O.told oracle.old)
+        (O.told oracle.new) steps.old steps.new
+        (λ dataset. is_referred dataset (graph_of quad.now) node.now) found) }
     ensures quads_stay { O.quads oracle.new ≡ O.quads oracle.old }
 {
     if is_nil(node) {
@@ -169,15 +176,18 @@ fn is_referred<O: Oracle, L: Ledger>(
     Ok(!cell)
 }
 
-// Whether the subject of a quad that tells no type is a key of the quad's graph. Only where the quad
-// tells the item or the rest of a list node is anything asked.
+// Whether the subject of a quad that tells no type is a key of the quad's graph. Only where the
+// quad tells the item or the rest of a list node is anything asked.
 fn subject_is_key<O: Oracle, L: Ledger>(
     alloc: Global,
     oracle: &mut O,
     quad: &Quad,
     steps: &mut Steps<L>,
 ) -> Result<bool, Memory>
-    ensures key { IfOk result (λ found. Learns (LinkNear (O.quads oracle.old) quad.now) (O.quads oracle.old) (O.told oracle.old) (O.told oracle.new) steps.old steps.new (λ dataset. subject_test dataset quad.now) found) }
+    ensures key { IfOk result (λ found.
+        Learns (LinkNear (O.quads oracle.old) quad.now) (O.quads oracle.old)
+        (O.told oracle.old) (O.told oracle.new) steps.old steps.new
+        (λ dataset. subject_test dataset quad.now) found) }
     ensures quads_stay { O.quads oracle.new ≡ O.quads oracle.old }
 {
     if !is_node(&quad.subject) {
@@ -199,7 +209,12 @@ fn put_subject<O: Oracle, L: Ledger>(
     quad: &Quad,
     steps: &mut Steps<L>,
 ) -> Result<(), Memory>
-    ensures put { OnOk result (Hears (LinkNear (O.quads oracle.old) quad.now) (O.quads oracle.old) (O.told oracle.old) (O.told oracle.new) steps.old steps.new (λ dataset. found.new.items ≡ found.old.items ++ map (λ q. q.subject) (filter (subject_test dataset) (quad.now ∷ [])))) }
+    ensures put { OnOk result (Hears (LinkNear (O.quads oracle.old) quad.now) (O.quads oracle.old)
+        (O.told oracle.old) (O.told oracle.new) steps.old steps.new
+        (λ dataset.
+        found.new.items
+        ≡ found.old.items
+        ++ map (λ q. q.subject) (filter (subject_test dataset) (quad.now ∷ [])))) }
     ensures quads_stay { O.quads oracle.new ≡ O.quads oracle.old }
 {
     let key = subject_is_key(alloc, oracle, quad, steps)?;
@@ -217,7 +232,12 @@ fn subjects_of<O: Oracle, L: Ledger>(
     quads: &[Quad],
     steps: &mut Steps<L>,
 ) -> Result<TermList, Memory>
-    ensures subjects { IfOk result (λ found. Hears (AnyLinkNear (O.quads oracle.old) quads.now) (O.quads oracle.old) (O.told oracle.old) (O.told oracle.new) steps.old steps.new (λ dataset. found ≡ set_of id_cmp (map (λ q. q.subject) (filter (subject_test dataset) quads.now)))) }
+    ensures subjects { IfOk result (λ found.
+        Hears (AnyLinkNear (O.quads oracle.old) quads.now) (O.quads oracle.old)
+        (O.told oracle.old) (O.told oracle.new) steps.old steps.new
+        (λ dataset.
+        found
+        ≡ set_of id_cmp (map (λ q. q.subject) (filter (subject_test dataset) quads.now)))) }
     ensures quads_stay { O.quads oracle.new ≡ O.quads oracle.old }
 {
     let mut found = Vec::new(alloc);
@@ -249,7 +269,12 @@ fn pointing_from<O: Oracle, L: Ledger>(
 ) -> Result<TermList, Memory>
     requires node { IsTrue (is_node node.now) }
     requires first { Some first.now ≡ first_quad told.now }
-    ensures keys { IfOk result (λ found. Hears (NodeOrLinkNear (O.quads oracle.old) node.now told.now) (O.quads oracle.old) (O.told oracle.old) (O.told oracle.new) steps.old steps.new (λ dataset. (g : TheGraph) (p : List ℕ) → told.now ≡ arrows dataset g p node.now → found ≡ pointing dataset g p node.now)) }
+    ensures keys { IfOk result (λ found.
+        Hears (NodeOrLinkNear (O.quads oracle.old) node.now told.now) (O.quads oracle.old)
+        (O.told oracle.old) (O.told oracle.new) steps.old steps.new
+        (λ dataset.
+        (g : TheGraph) (p : List ℕ) → told.now ≡ arrows dataset g p node.now →
+        found ≡ pointing dataset g p node.now)) }
     ensures quads_stay { O.quads oracle.new ≡ O.quads oracle.old }
 {
     let referred = is_referred(alloc, oracle, first, node, steps)?;
@@ -269,7 +294,12 @@ fn pointing_among<O: Oracle, L: Ledger>(
     steps: &mut Steps<L>,
 ) -> Result<TermList, Memory>
     requires node { IsTrue (is_node node.now) }
-    ensures keys { IfOk result (λ found. Hears (NodeOrLinkNear (O.quads oracle.old) node.now told.now) (O.quads oracle.old) (O.told oracle.old) (O.told oracle.new) steps.old steps.new (λ dataset. (g : TheGraph) (p : List ℕ) → told.now ≡ arrows dataset g p node.now → found ≡ pointing dataset g p node.now)) }
+    ensures keys { IfOk result (λ found.
+        Hears (NodeOrLinkNear (O.quads oracle.old) node.now told.now) (O.quads oracle.old)
+        (O.told oracle.old) (O.told oracle.new) steps.old steps.new
+        (λ dataset.
+        (g : TheGraph) (p : List ℕ) → told.now ≡ arrows dataset g p node.now →
+        found ≡ pointing dataset g p node.now)) }
     ensures quads_stay { O.quads oracle.new ≡ O.quads oracle.old }
 {
     match first_quad(told) {
@@ -292,7 +322,11 @@ fn pointing_to<O: Oracle, L: Ledger>(
     node: &Term,
     steps: &mut Steps<L>,
 ) -> Result<TermList, Memory>
-    ensures keys { IfOk result (λ found. Learns (IsNearOne (O.quads oracle.old) (IsPointing (O.quads oracle.old) graph.now (Iri property.now) node.now)) (O.quads oracle.old) (O.told oracle.old) (O.told oracle.new) steps.old steps.new (λ dataset. pointing dataset graph.now property.now node.now) found) }
+    ensures keys { IfOk result (λ found.
+        Learns (IsNearOne (O.quads oracle.old)
+        (IsPointing (O.quads oracle.old) graph.now (Iri property.now) node.now))
+        (O.quads oracle.old) (O.told oracle.old) (O.told oracle.new) steps.old steps.new
+        (λ dataset. pointing dataset graph.now property.now node.now) found) }
     ensures quads_stay { O.quads oracle.new ≡ O.quads oracle.old }
 {
     if !is_node(node) {
@@ -312,7 +346,11 @@ pub fn pointing_by<O: Oracle, L: Ledger>(
     node: &Term,
     steps: &mut Steps<L>,
 ) -> Result<TermList, Memory>
-    ensures keys { IfOk result (λ found. Learns (IsNearOne (O.quads oracle.old) (IsPointing (O.quads oracle.old) graph.now property.now node.now)) (O.quads oracle.old) (O.told oracle.old) (O.told oracle.new) steps.old steps.new (λ dataset. pointing_at dataset graph.now property.now node.now) found) }
+    ensures keys { IfOk result (λ found.
+        Learns (IsNearOne (O.quads oracle.old)
+        (IsPointing (O.quads oracle.old) graph.now property.now node.now))
+        (O.quads oracle.old) (O.told oracle.old) (O.told oracle.new) steps.old steps.new
+        (λ dataset. pointing_at dataset graph.now property.now node.now) found) }
     ensures quads_stay { O.quads oracle.new ≡ O.quads oracle.old }
 {
     match property {

@@ -25,7 +25,10 @@ fn value_of<O: Oracle, L: Ledger>(
     quad: &Quad,
     steps: &mut Steps<L>,
 ) -> Result<Value, Memory>
-    ensures value { IfOk result (λ found. Learns (NearTo (O.quads oracle.old) quad.now.object) (O.quads oracle.old) (O.told oracle.old) (O.told oracle.new) steps.old steps.new (λ dataset. quad_value dataset quad.now) (value_data found)) }
+    ensures value { IfOk result (λ found.
+        Learns (NearTo (O.quads oracle.old) quad.now.object) (O.quads oracle.old)
+        (O.told oracle.old) (O.told oracle.new) steps.old steps.new
+        (λ dataset. quad_value dataset quad.now) (value_data found)) }
     ensures quads_stay { O.quads oracle.new ≡ O.quads oracle.old }
 {
     let graph = graph_of(alloc, quad)?;
@@ -43,7 +46,10 @@ fn values_of<O: Oracle, L: Ledger>(
     steps: &mut Steps<L>,
 ) -> Result<ValueList, Memory>
     requires near { AreNear (O.quads oracle.old) node.now entries.now }
-    ensures values { IfOk result (λ found. Hears (NearTo (O.quads oracle.old) node.now) (O.quads oracle.old) (O.told oracle.old) (O.told oracle.new) steps.old steps.new (λ dataset. map value_data found ≡ map (quad_value dataset) entries.now)) }
+    ensures values { IfOk result (λ found.
+        Hears (NearTo (O.quads oracle.old) node.now) (O.quads oracle.old) (O.told oracle.old)
+        (O.told oracle.new) steps.old steps.new
+        (λ dataset. map value_data found ≡ map (quad_value dataset) entries.now)) }
     ensures quads_stay { O.quads oracle.new ≡ O.quads oracle.old }
 {
     let mut values = ValueList::new(alloc);
@@ -64,7 +70,10 @@ fn prop_of<O: Oracle, L: Ledger>(
     steps: &mut Steps<L>,
 ) -> Result<Prop, Memory>
     requires near { AreNear (O.quads oracle.old) node.now entries.now }
-    ensures prop { IfOk result (λ found. Hears (NearTo (O.quads oracle.old) node.now) (O.quads oracle.old) (O.told oracle.old) (O.told oracle.new) steps.old steps.new (λ dataset. property_data found ≡ valued dataset property.now entries.now)) }
+    ensures prop { IfOk result (λ found.
+        Hears (NearTo (O.quads oracle.old) node.now) (O.quads oracle.old) (O.told oracle.old)
+        (O.told oracle.new) steps.old steps.new
+        (λ dataset. property_data found ≡ valued dataset property.now entries.now)) }
     ensures quads_stay { O.quads oracle.new ≡ O.quads oracle.old }
 {
     let property = property.copy(alloc)?;
@@ -82,7 +91,10 @@ pub(crate) fn props_of<O: Oracle, L: Ledger>(
 ) -> Result<PropList, Memory>
     requires near { AreNear (O.quads oracle.old) node.now entries.now }
     requires in_order { IsTrue (ascends entry_cmp entries.now) }
-    ensures props { IfOk result (λ found. Hears (NearTo (O.quads oracle.old) node.now) (O.quads oracle.old) (O.told oracle.old) (O.told oracle.new) steps.old steps.new (λ dataset. map property_data found ≡ gathered (quad_value dataset) entries.now)) }
+    ensures props { IfOk result (λ found.
+        Hears (NearTo (O.quads oracle.old) node.now) (O.quads oracle.old) (O.told oracle.old)
+        (O.told oracle.new) steps.old steps.new
+        (λ dataset. map property_data found ≡ gathered (quad_value dataset) entries.now)) }
     ensures quads_stay { O.quads oracle.new ≡ O.quads oracle.old }
 {
     let mut props = PropList::new(alloc);

@@ -26,7 +26,8 @@ use std::sync::ledger::Ledger;
 
 // The object of a quad more, where it tells a type.
 fn put_type(alloc: Global, types: &mut Vec<ById>, quad: &Quad) -> Result<(), Memory>
-    ensures { OnOk result (types.new.items ≡ types.old.items ++ map (λ q. q.object) (filter is_type_quad (quad.now ∷ []))) }
+    ensures { OnOk result (types.new.items
+        ≡ types.old.items ++ map (λ q. q.object) (filter is_type_quad (quad.now ∷ []))) }
 {
     if !is_type_quad(quad) {
         return Ok(());
@@ -62,7 +63,11 @@ fn view_from<O: Oracle, L: Ledger>(
     steps: &mut Steps<L>,
 ) -> Result<NodeView, Memory>
     requires near { AreNear (O.quads oracle.old) node.now quads }
-    ensures view { IfOk result (λ found. Hears (NearTo (O.quads oracle.old) node.now) (O.quads oracle.old) (O.told oracle.old) (O.told oracle.new) steps.old steps.new (λ dataset. AreHeld dataset quads → view_data found ≡ view_from (answers_of dataset) (enough dataset) node.now quads)) }
+    ensures view { IfOk result (λ found.
+        Hears (NearTo (O.quads oracle.old) node.now) (O.quads oracle.old) (O.told oracle.old)
+        (O.told oracle.new) steps.old steps.new (λ dataset.
+        AreHeld dataset quads →
+        view_data found ≡ view_from (answers_of dataset) (enough dataset) node.now quads)) }
     ensures quads_stay { O.quads oracle.new ≡ O.quads oracle.old }
 {
     let id = node.copy(alloc)?;
@@ -80,7 +85,10 @@ fn quads_of<O: Oracle, L: Ledger>(
     node: &Term,
     steps: &mut Steps<L>,
 ) -> Result<Option<QuadList>, Memory>
-    ensures quads { IfOk result (λ found. Learns (NearTo (O.quads oracle.old) node.now) (O.quads oracle.old) (O.told oracle.old) (O.told oracle.new) steps.old steps.new (λ dataset. key_quads dataset graph.now node.now) found) }
+    ensures quads { IfOk result (λ found.
+        Learns (NearTo (O.quads oracle.old) node.now) (O.quads oracle.old) (O.told oracle.old)
+        (O.told oracle.new) steps.old steps.new
+        (λ dataset. key_quads dataset graph.now node.now) found) }
     ensures quads_stay { O.quads oracle.new ≡ O.quads oracle.old }
 {
     match graph {
@@ -98,7 +106,10 @@ pub fn view_of<O: Oracle, L: Ledger>(
     node: &Term,
     steps: &mut Steps<L>,
 ) -> Result<Option<NodeView>, Memory>
-    ensures view { IfOk result (λ found. Learns (NearTo (O.quads oracle.old) node.now) (O.quads oracle.old) (O.told oracle.old) (O.told oracle.new) steps.old steps.new (λ dataset. view_of dataset graph.now node.now) (option_map view_data found)) }
+    ensures view { IfOk result (λ found.
+        Learns (NearTo (O.quads oracle.old) node.now) (O.quads oracle.old) (O.told oracle.old)
+        (O.told oracle.new) steps.old steps.new
+        (λ dataset. view_of dataset graph.now node.now) (option_map view_data found)) }
     ensures quads_stay { O.quads oracle.new ≡ O.quads oracle.old }
 {
     let told = quads_of(alloc, oracle, graph, node, steps)?;

@@ -1,4 +1,5 @@
--- What a reader of a line answers: what reading gives, or its kind where reading stops, unless no memory was found.
+-- What a reader of a line answers: what reading gives, or its kind where reading stops, unless no
+-- memory was found.
 use Rattle.std.specs.Prelude.{◌≡◌, ℕ, false, List, ◌∷◌, ◌++◌, Option, Some, None, Result, Ok, Err, IsTrue, encode_utf8_all}
 use Rattle.lf_base.specs.Ascii as ch
 use Rattle.def_patch_texts.specs.declared.kind.LineKind.{LineKind}
@@ -24,14 +25,18 @@ encoded (Ok read) = Ok (encode_utf8_all read.0, read.1)
 encoded (Err kind) = Err kind
 
 -- these bytes, before those that were read
-abbrev pub with_front : List ℕ → Result (List ℕ × List ℕ) LineKind → Result (List ℕ × List ℕ) LineKind
+abbrev pub with_front :
+    List ℕ → Result (List ℕ × List ℕ) LineKind → Result (List ℕ × List ℕ) LineKind
 with_front front (Ok read) = Ok (front ++ read.0, read.1)
 with_front front (Err kind) = Err kind
 
--- A hexadecimal digit, taken from the front of the characters, has this value; or none stands there.
+-- A hexadecimal digit, taken from the front of the characters, has this value; or none stands
+-- there.
 abbrev pub GivesDigit : List ℕ → Result ℕ Fault → List ℕ → Type 0
-GivesDigit before (Ok value) after = (c : ℕ) × (before ≡ c ∷ after) × IsTrue (is_hex_digit c) × (value ≡ hex_digit c)
-GivesDigit before (Err (Bad kind)) after = (kind ≡ BadEscape) × (first_is is_hex_digit before ≡ false)
+GivesDigit before (Ok value) after =
+    (c : ℕ) × (before ≡ c ∷ after) × IsTrue (is_hex_digit c) × (value ≡ hex_digit c)
+GivesDigit before (Err (Bad kind)) after =
+    (kind ≡ BadEscape) × (first_is is_hex_digit before ≡ false)
 GivesDigit before (Err Memory) after = ⊥
 
 -- what must stand behind a backslash

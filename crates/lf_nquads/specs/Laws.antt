@@ -9,4 +9,6 @@ use Rattle.def_patch_texts.specs.BadLine.{IsBadLine}
 abbrev pub EachTextIsTold : Type 0
 EachTextIsTold =
     (text : List ℕ)
-    → ((signed : List Signed) × IsPatchText text signed) ⊎ ((n : ℕ) × (kind : LineKind) × IsBadLine text n kind)
+    →
+    ((signed : List Signed) × IsPatchText text signed)
+    ⊎ ((n : ℕ) × (kind : LineKind) × IsBadLine text n kind)

@@ -1,5 +1,5 @@
--- A line read from left to right, with what is wrong where the reading stops. Where it gives something it gives what
--- `def_patch_texts` reads (its `Reading`).
+-- A line read from left to right, with what is wrong where the reading stops. Where it gives
+-- something it gives what `def_patch_texts` reads (its `Reading`).
 use Rattle.std.specs.Prelude.{ℕ, zero, suc, List, [], ◌∷◌, length, Option, Some, None, Result, Ok, Err, if◌then◌else◌, encode_utf8_all}
 use Rattle.lf_base.specs.Ascii as ch
 use Rattle.lf_rdf.specs.declared.term.Term.{Term}
@@ -22,7 +22,8 @@ abbrev pub expected : {A : Type 0} → Option A → Result A LineKind
 expected None = Err Syntax
 expected (Some x) = Ok x
 
--- a part of an IRI or a string at the front of this text: behind a backslash only an escape may stand
+-- a part of an IRI or a string at the front of this text: behind a backslash only an escape may
+-- stand
 abbrev pub part_of : {A : Type 0} → List ℕ → Option A → Result A LineKind
 part_of text None = Err (if starts ch.backslash text then BadEscape else Syntax)
 part_of text (Some x) = Ok x
@@ -35,14 +36,16 @@ with_char c (Ok read) = Ok (c ∷ read.0, read.1)
 with_char c (Err kind) = Err kind
 
 -- The characters of parts before this closing character, which are at most so many.
-unfoldable pub parts_of : ℕ → (List ℕ → Result (ℕ × List ℕ) LineKind) → ℕ → List ℕ → Result (List ℕ × List ℕ) LineKind
+unfoldable pub parts_of :
+    ℕ → (List ℕ → Result (ℕ × List ℕ) LineKind) → ℕ → List ℕ → Result (List ℕ × List ℕ) LineKind
 parts_of close part zero text = Err Syntax
 parts_of close part (suc room) text =
     if starts close text then Ok ([], text)
     else (part text >>= λ first. with_char first.0 (parts_of close part room first.1))
 
 -- those of the whole text
-abbrev pub all_parts_of : ℕ → (List ℕ → Result (ℕ × List ℕ) LineKind) → List ℕ → Result (List ℕ × List ℕ) LineKind
+abbrev pub all_parts_of :
+    ℕ → (List ℕ → Result (ℕ × List ℕ) LineKind) → List ℕ → Result (List ℕ × List ℕ) LineKind
 all_parts_of close part text = parts_of close part (suc (length text)) text
 
 abbrev pub iri_part_of : Allowed → List ℕ → Result (ℕ × List ℕ) LineKind
@@ -83,8 +86,11 @@ typed_of allowed text = do
 -- a literal with this string, behind which this text stands
 unfoldable pub suffix_of : Allowed → List ℕ → List ℕ → Result (Term × List ℕ) LineKind
 suffix_of allowed value text =
-    if starts ch.caret (skip text) then (typed_of allowed (skip text) >>= λ datatype. Ok (Literal value datatype.0 None, datatype.1))
-    else if starts ch.at_sign (skip text) then (expected (tag_at (skip text)) >>= λ tag. Ok (Literal value rdf_lang_string (Some tag.0), tag.1))
+    if starts ch.caret (skip text)
+    then (typed_of allowed (skip text) >>= λ datatype.
+    Ok (Literal value datatype.0 None, datatype.1))
+    else if starts ch.at_sign (skip text) then (expected (tag_at (skip text)) >>= λ tag.
+    Ok (Literal value rdf_lang_string (Some tag.0), tag.1))
     else Ok (Literal value xsd_string None, text)
 
 abbrev pub literal_of : Allowed → List ℕ → Result (Term × List ℕ) LineKind
@@ -106,7 +112,9 @@ named_of allowed text = do
 -- the graph label, where there is one, and the dot
 unfoldable pub graph_of : Allowed → List ℕ → Result (Option Term × List ℕ) LineKind
 graph_of allowed text =
-    if starts ch.dot (skip text) then (expected (after_char ch.dot (skip text)) >>= λ rest. Ok (None, rest)) else named_of allowed (skip text)
+    if starts ch.dot (skip text)
+    then (expected (after_char ch.dot (skip text)) >>= λ rest. Ok (None, rest))
+    else named_of allowed (skip text)
 
 unfoldable pub statement_of : Allowed → List ℕ → Result Quad LineKind
 statement_of allowed text = do
@@ -114,7 +122,8 @@ statement_of allowed text = do
   predicate ← iri_of allowed (skip subject.1)
   object ← object_of allowed (skip predicate.1)
   graph ← graph_of allowed object.1
-  if is_comment (skip graph.1) then Ok (quad_of subject.0 predicate.0 object.0 graph.0) else Err Syntax
+  if is_comment (skip graph.1) then Ok (quad_of subject.0 predicate.0 object.0 graph.0)
+      else Err Syntax
 
 unfoldable pub signed_of : Allowed → List ℕ → Result (Option Signed) LineKind
 signed_of allowed text = do

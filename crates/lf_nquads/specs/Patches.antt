@@ -27,7 +27,8 @@ Judges bytes (Err (fault.Bad kind)) = IsBadOf bytes kind
 
 -- what a line with this number adds to the list
 abbrev pub Takes : List ℕ → ℕ → List Signed → Result (Unit {0}) LineErr → List Signed → Type 0
-Takes bytes number before (Ok done) after = (stated : Option Signed) × IsLine bytes stated × (after ≡ before ++ with_stated stated [])
+Takes bytes number before (Ok done) after =
+    (stated : Option Signed) × IsLine bytes stated × (after ≡ before ++ with_stated stated [])
 Takes bytes number before (Err err.Memory) after = Unit {0}
 Takes bytes number before (Err (err.Bad n kind)) after = (n ≡ number) × IsBadOf bytes kind
 

@@ -32,7 +32,8 @@ impl<'a> Cursor<'a> {
 
     // Takes the longest label. Dots at its end are left where they are.
     fn label(&mut self) -> Result<&'a str, Fault>
-        ensures { Gives (λ label. (label.now, self.new)) result (encoded (expected (front_at is_label self.old))) }
+        ensures { Gives (λ label. (label.now, self.new)) result
+            (encoded (expected (front_at is_label self.old))) }
     {
         let start = self.here();
         self.first_of_label()?;

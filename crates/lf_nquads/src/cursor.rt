@@ -48,7 +48,8 @@ impl<'a> Cursor<'a> {
     /// The text from here to a place further on.
     pub fn until(&self, end: &Cursor<'a>) -> &'a str
         requires { (between : List ℕ) × (self.now ≡ between ++ end.now) }
-        ensures { (between : List ℕ) → self.now ≡ between ++ end.now → result.now ≡ encode_utf8_all between }
+        ensures { (between : List ℕ) → self.now ≡ between ++ end.now →
+            result.now ≡ encode_utf8_all between }
     {
         let text = self.rest;
         let (between, _) = text.split_at(text.len() - end.rest.len());

@@ -40,7 +40,8 @@ impl Cursor<'_> {
 
     // Takes the characters before `>`, one by one.
     fn iri_parts(&mut self, alloc: Global) -> Result<String, Fault>
-        ensures { Gives (λ iri. (string_bytes iri, self.new)) result (encoded (all_parts_of ch.greater (iri_part_of absolute_iris) self.old)) }
+        ensures { Gives (λ iri. (string_bytes iri, self.new)) result
+            (encoded (all_parts_of ch.greater (iri_part_of absolute_iris) self.old)) }
     {
         let mut iri = String::new(alloc);
         while !self.begins('>') {
@@ -52,7 +53,8 @@ impl Cursor<'_> {
 
     // Takes the characters before `>`. Where none is an escape they are taken in one piece.
     fn iri_text(&mut self, alloc: Global) -> Result<Text, Fault>
-        ensures { Gives (λ iri. (iri, self.new)) result (encoded (all_parts_of ch.greater (iri_part_of absolute_iris) self.old)) }
+        ensures { Gives (λ iri. (iri, self.new)) result
+            (encoded (all_parts_of ch.greater (iri_part_of absolute_iris) self.old)) }
     {
         let mut ahead = self.here();
         let raw = ahead.raw_iri();

@@ -63,7 +63,8 @@ impl<'a> Cursor<'a> {
 
     // Takes the characters before `"`, one by one.
     fn string_parts(&mut self, alloc: Global) -> Result<String, Fault>
-        ensures { Gives (λ value. (string_bytes value, self.new)) result (encoded (all_parts_of ch.quote (string_part_of absolute_iris) self.old)) }
+        ensures { Gives (λ value. (string_bytes value, self.new)) result
+            (encoded (all_parts_of ch.quote (string_part_of absolute_iris) self.old)) }
     {
         let mut value = String::new(alloc);
         while !self.begins('"') {
@@ -75,7 +76,8 @@ impl<'a> Cursor<'a> {
 
     // Takes the characters before `"`. Where none is an escape they are taken in one piece.
     fn string_text(&mut self, alloc: Global) -> Result<Text, Fault>
-        ensures { Gives (λ value. (value, self.new)) result (encoded (all_parts_of ch.quote (string_part_of absolute_iris) self.old)) }
+        ensures { Gives (λ value. (value, self.new)) result
+            (encoded (all_parts_of ch.quote (string_part_of absolute_iris) self.old)) }
     {
         let mut ahead = self.here();
         let raw = ahead.raw_string();
@@ -101,7 +103,8 @@ impl<'a> Cursor<'a> {
 
     // Takes the longest tag. A `-` at its end is left where it is.
     fn tag_front(&mut self) -> Result<&'a str, Fault>
-        ensures { Gives (λ tag. (tag.now, self.new)) result (encoded (expected (front_at is_tag self.old))) }
+        ensures { Gives (λ tag. (tag.now, self.new)) result
+            (encoded (expected (front_at is_tag self.old))) }
     {
         let start = self.here();
         let mut end = self.here();

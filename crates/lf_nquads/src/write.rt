@@ -13,7 +13,8 @@ use std::alloc::Global;
 
 // Puts one character of a string at the end, escaped where a canonical line escapes it.
 fn push_escaped_char(out: &mut String, character: char) -> Result<(), Memory>
-    ensures { OnOk result (string_bytes out.new ≡ string_bytes out.old ++ encode_utf8_all (escaped_byte character)) }
+    ensures { OnOk result (string_bytes out.new
+        ≡ string_bytes out.old ++ encode_utf8_all (escaped_byte character)) }
 {
     match character {
         '"' => out.push_str("\\\"")?,
@@ -58,7 +59,8 @@ fn push_quoted(out: &mut String, text: &str) -> Result<(), Memory>
 // Puts what follows the string of a literal at the end: its language, or a datatype other than
 // `xsd:string`.
 fn push_suffix(out: &mut String, datatype: &Text, language: &Option<Text>) -> Result<(), Memory>
-    ensures { OnOk result (string_bytes out.new ≡ string_bytes out.old ++ suffix_of datatype.now language.now) }
+    ensures { OnOk result
+        (string_bytes out.new ≡ string_bytes out.old ++ suffix_of datatype.now language.now) }
 {
     match language {
         Some(tag) => {
@@ -112,7 +114,8 @@ fn push_graph(out: &mut String, graph: &Option<Term>) -> Result<(), Memory>
 
 // Puts the canonical line of a quad at the end, and LF.
 fn push_line(out: &mut String, quad: &Quad) -> Result<(), Memory>
-    ensures { OnOk result (string_bytes out.new ≡ string_bytes out.old ++ (line quad.now ++ ch.line_feed ∷ [])) }
+    ensures { OnOk result
+        (string_bytes out.new ≡ string_bytes out.old ++ (line quad.now ++ ch.line_feed ∷ [])) }
 {
     push_term(out, &quad.subject)?;
     out.push_str(" ")?;

@@ -1,4 +1,5 @@
--- What is learnt by asking: the questions that were asked, and what every dataset gives that answers them alike.
+-- What is learnt by asking: the questions that were asked, and what every dataset gives that
+-- answers them alike.
 use Rattle.std.specs.Prelude.{◌≡◌, ℕ, ◌+◌, List, ◌++◌, length, Bool, true, false, Option, Some, None, All}
 use Rattle.lf_rdf.specs.declared.quad.Quad.{Quad}
 use Rattle.lf_rdf.specs.declared.question.GraphRef.{GraphRef}
@@ -34,13 +35,17 @@ told_with more (Some before) = Some (before ++ more)
 abbrev pub SameAnswers : List Quad → List Quad → List Question → Type 0
 SameAnswers one two asked = All (λ question. answer two question ≡ answer one question) asked
 
--- what was given, every dataset gives that answers the questions alike, the dataset itself first of all
+-- what was given, every dataset gives that answers the questions alike, the dataset itself first of
+-- all
 abbrev pub IsLearntBy : {A : Type 0} → List Question → List Quad → (List Quad → A) → A → Type 0
-IsLearntBy asked dataset gives given = (other : List Quad) → SameAnswers dataset other asked → given ≡ gives other
+IsLearntBy asked dataset gives given =
+    (other : List Quad) → SameAnswers dataset other asked → given ≡ gives other
 
--- Some questions were asked, each of them near, and what was given is learnt by them. The told questions grew by them, and the
--- steps rose by as many.
-pub record Learns {A : Type 0} (Near : Question → Type 0) (dataset : List Quad) (before after : Option (List Question)) (first last : ℕ) (gives : List Quad → A) (given : A) : Type 0 where
+-- Some questions were asked, each of them near, and what was given is learnt by them. The told
+-- questions grew by them, and the steps rose by as many.
+pub record Learns {A : Type 0} (Near : Question → Type 0) (dataset : List Quad)
+    (before after : Option (List Question)) (first last : ℕ) (gives : List Quad → A) (given : A) :
+    Type 0 where
   pub asked : List Question
   pub told : after ≡ told_with asked before
   pub counted : last ≡ first + length asked

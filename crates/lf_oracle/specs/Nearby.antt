@@ -1,4 +1,5 @@
--- Which terms the questions of a call are near, for a frame without `@reverse` (JSON-LD 1.1 Framing, section 4.1).
+-- Which terms the questions of a call are near, for a frame without `@reverse` (JSON-LD 1.1
+-- Framing, section 4.1).
 use Rattle.std.specs.Prelude.{◌≡◌, ◌⊎◌, ⊤, List, [], IsTrue}
 use Rattle.std.specs.List.{list_any}
 use Rattle.lf_rdf.specs.declared.quad.Quad.{Quad}
@@ -28,7 +29,8 @@ NamesGraph graph.Merged x = ⊥
 abbrev pub IsOfNode : GraphRef → Term → Term → Type 0
 IsOfNode g id x = (x ≡ id) ⊎ NamesGraph g x
 
--- a term is the node that is pointed at, the subject of a quad that points at it, or names the graph
+-- a term is the node that is pointed at, the subject of a quad that points at it, or names the
+-- graph
 abbrev pub IsPointing : List Quad → GraphRef → Term → Term → Term → Type 0
 IsPointing dataset g property id x =
     IsOfNode g id x ⊎ IsTrue (list_any (λ q. term_eq q.subject x) (inward dataset g property id))
@@ -37,8 +39,10 @@ IsPointing dataset g property id x =
 abbrev pub IsMember : List Quad → GraphRef → Term → Type 0
 IsMember dataset g x = NamesGraph g x ⊎ IsTrue (list_any (term_eq x) (members dataset g))
 
--- the questions for the keys of a named graph are near its members; those for the keys of other graphs may be about any term
+-- the questions for the keys of a named graph are near its members; those for the keys of other
+-- graphs may be about any term
 abbrev pub IsNearMembers : List Quad → GraphRef → Question → Type 0
 IsNearMembers dataset graph.Default question = ⊤
-IsNearMembers dataset (graph.Named name) question = IsNearOne dataset (IsMember dataset (graph.Named name)) question
+IsNearMembers dataset (graph.Named name) question =
+    IsNearOne dataset (IsMember dataset (graph.Named name)) question
 IsNearMembers dataset graph.Merged question = ⊤

@@ -1,4 +1,5 @@
--- What a node view of the program says, as the definitions of views speak of it (JSON-LD 1.1 Framing, section 4.1).
+-- What a node view of the program says, as the definitions of views speak of it (JSON-LD 1.1
+-- Framing, section 4.1).
 use Rattle.std.specs.Prelude.{List, [], map}
 use Rattle.lf_rdf.specs.declared.quad.Quad.{Quad}
 use Rattle.lf_rdf.specs.declared.term.Term.{Term}

@@ -18,7 +18,10 @@ pub fn names_graph<O: Oracle, L: Ledger>(
     name: &Term,
     steps: &mut Steps<L>,
 ) -> Result<bool, Memory>
-    ensures names { IfOk result (λ found. Learns (IsNearOne (O.quads oracle.old) (IsNamed name.now)) (O.quads oracle.old) (O.told oracle.old) (O.told oracle.new) steps.old steps.new (λ dataset. named dataset name.now) found) }
+    ensures names { IfOk result (λ found.
+        Learns (IsNearOne (O.quads oracle.old) (IsNamed name.now)) (O.quads oracle.old)
+        (O.told oracle.old) (O.told oracle.new) steps.old steps.new
+        (λ dataset. named dataset name.now) found) }
     ensures quads_stay { O.quads oracle.new ≡ O.quads oracle.old }
 {
     let question = Question::Named(name.copy(alloc)?);

@@ -16,7 +16,8 @@ use std::sync::ledger::Ledger;
 
 /// The nodes of the graphs of a dataset, as framing sees them (JSON-LD 1.1 Framing, section 4.1).
 ///
-/// Each call asks some questions. What it gives, every dataset gives that answers these questions alike.
+/// Each call asks some questions. What it gives, every dataset gives that answers these questions
+/// alike.
 pub trait Nodes {
     /// The quads whose nodes are seen.
     ghost quads: { Self → List Quad };
@@ -32,7 +33,10 @@ pub trait Nodes {
         id: &Term,
         steps: &mut Steps<L>,
     ) -> Result<Option<NodeView>, Memory>
-        ensures view { IfOk result (λ found. Learns (IsNearOne (quads self.old) (IsOfNode graph.now id.now)) (quads self.old) (told self.old) (told self.new) steps.old steps.new (λ dataset. view_of dataset graph.now id.now) (option_map view_data found)) }
+        ensures view { IfOk result (λ found.
+            Learns (IsNearOne (quads self.old) (IsOfNode graph.now id.now)) (quads self.old)
+            (told self.old) (told self.new) steps.old steps.new
+            (λ dataset. view_of dataset graph.now id.now) (option_map view_data found)) }
         ensures quads_stay { quads self.new ≡ quads self.old };
 
     /// The keys of a graph, in order of their ids.
@@ -42,10 +46,13 @@ pub trait Nodes {
         graph: &GraphRef,
         steps: &mut Steps<L>,
     ) -> Result<TermList, Memory>
-        ensures keys { IfOk result (λ found. Learns (IsNearMembers (quads self.old) graph.now) (quads self.old) (told self.old) (told self.new) steps.old steps.new (λ dataset. keys dataset graph.now) found) }
+        ensures keys { IfOk result (λ found.
+            Learns (IsNearMembers (quads self.old) graph.now) (quads self.old) (told self.old)
+            (told self.new) steps.old steps.new (λ dataset. keys dataset graph.now) found) }
         ensures quads_stay { quads self.new ≡ quads self.old };
 
-    /// The keys of a graph whose view has the reference to a node under a property, in order of their ids.
+    /// The keys of a graph whose view has the reference to a node under a property, in order of
+    /// their ids.
     fn pointing<L: Ledger>(
         &mut self,
         alloc: Global,
@@ -54,7 +61,11 @@ pub trait Nodes {
         id: &Term,
         steps: &mut Steps<L>,
     ) -> Result<TermList, Memory>
-        ensures keys { IfOk result (λ found. Learns (IsNearOne (quads self.old) (IsPointing (quads self.old) graph.now property.now id.now)) (quads self.old) (told self.old) (told self.new) steps.old steps.new (λ dataset. pointing_at dataset graph.now property.now id.now) found) }
+        ensures keys { IfOk result (λ found.
+            Learns (IsNearOne (quads self.old)
+            (IsPointing (quads self.old) graph.now property.now id.now)) (quads self.old)
+            (told self.old) (told self.new) steps.old steps.new
+            (λ dataset. pointing_at dataset graph.now property.now id.now) found) }
         ensures quads_stay { quads self.new ≡ quads self.old };
 
     /// Whether a quad lies in the graph of this name.
@@ -64,6 +75,9 @@ pub trait Nodes {
         name: &Term,
         steps: &mut Steps<L>,
     ) -> Result<bool, Memory>
-        ensures names { IfOk result (λ found. Learns (IsNearOne (quads self.old) (IsNamed name.now)) (quads self.old) (told self.old) (told self.new) steps.old steps.new (λ dataset. named dataset name.now) found) }
+        ensures names { IfOk result (λ found.
+            Learns (IsNearOne (quads self.old) (IsNamed name.now)) (quads self.old)
+            (told self.old) (told self.new) steps.old steps.new
+            (λ dataset. named dataset name.now) found) }
         ensures quads_stay { quads self.new ≡ quads self.old };
 }

@@ -18,7 +18,8 @@ pub trait Oracle {
     /// The questions that were asked, in order, where the oracle tells them.
     ghost told: { Self → Option (List Question) };
 
-    /// Answers a question and counts it. The quads stay as they are, so the same question has the same answer.
+    /// Answers a question and counts it. The quads stay as they are, so the same question has the
+    /// same answer.
     fn ask<L: Ledger>(
         &mut self,
         alloc: Global,

@@ -49,7 +49,8 @@ fn names_nothing<O: Oracle, L: Ledger>(
     Ok(!named?)
 }
 
-// Two questions to the empty dataset: whether a graph has quads, and the nodes of the default graph.
+// Two questions to the empty dataset: whether a graph has quads, and the nodes of the default
+// graph.
 fn asked_twice<L: Ledger>(alloc: Global, blank: Blank) -> Result<bool, Memory>
     requires name { blank.name ≡ L.name }
     requires parts { blank.parts ≡ L.parts }

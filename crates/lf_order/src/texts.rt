@@ -1,4 +1,5 @@
-//! Canonical texts of terms (RDF 1.1 N-Quads, section 4), by which the objects of a property are put in order.
+//! Canonical texts of terms (RDF 1.1 N-Quads, section 4), by which the objects of a property are
+//! put in order.
 ghost use Rattle.std.specs.Prelude.{◌≡◌, ◌++◌, ◌∷◌, IfOk, OnOk};
 ghost use Rattle.lf_rdf.specs.Canonical.{bracketed, escaped, escaped_byte, quoted, suffix_of, term_text};
 

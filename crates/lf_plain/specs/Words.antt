@@ -20,4 +20,9 @@ label_of (c ∷ rest) = Some (term_of (c ∷ rest))
 
 abbrev pub quad_of : List ℕ → List ℕ → List ℕ → List ℕ → Quad
 quad_of subject predicate object graph =
-    record { subject = term_of subject; predicate = term_of predicate; object = term_of object; graph = label_of graph }
+    record {
+      subject = term_of subject;
+      predicate = term_of predicate;
+      object = term_of object;
+      graph = label_of graph;
+    }

@@ -1,4 +1,5 @@
-//! The oracle of a plain list of quads, for tests and small datasets: each question walks the whole list.
+//! The oracle of a plain list of quads, for tests and small datasets: each question walks the whole
+//! list.
 #![tactic(auto)]
 
 mod answers;

@@ -29,7 +29,8 @@ fn put_nodes(
     quads: &[Quad],
     graph: &GraphRef,
 ) -> Result<(), Memory>
-    ensures { OnOk result (found.new.items ≡ put_all id_cmp found.old.items (flat_map nodes_in (triples quads.now graph.now))) }
+    ensures { OnOk result (found.new.items
+        ≡ put_all id_cmp found.old.items (flat_map nodes_in (triples quads.now graph.now))) }
 {
     for quad in quads {
         if lies_in(graph, quad) {
@@ -52,7 +53,8 @@ fn put_nodes_of(alloc: Global, found: &mut Vec<Term>, quad: &Quad) -> Result<(),
 
 // A term, where it is a node.
 fn put_node(alloc: Global, found: &mut Vec<Term>, term: &Term) -> Result<(), Memory>
-    ensures { OnOk result (found.new.items ≡ put_all id_cmp found.old.items (filter is_node (term.now ∷ []))) }
+    ensures { OnOk result
+        (found.new.items ≡ put_all id_cmp found.old.items (filter is_node (term.now ∷ []))) }
 {
     if is_node(term) {
         return put_term(alloc, found, term);
@@ -67,7 +69,8 @@ fn put_names(
     quads: &[Quad],
     graph: &GraphRef,
 ) -> Result<(), Memory>
-    ensures { OnOk result (found.new.items ≡ put_all id_cmp found.old.items (names_in quads.now graph.now)) }
+    ensures { OnOk result
+        (found.new.items ≡ put_all id_cmp found.old.items (names_in quads.now graph.now)) }
 {
     match graph {
         GraphRef::Default => put_terms(alloc, found, names(alloc, quads)?.as_slice()),
@@ -87,7 +90,8 @@ fn names(alloc: Global, quads: &[Quad]) -> Result<TermList, Memory>
 
 // The graph labels of some quads.
 fn put_labels(alloc: Global, found: &mut Vec<Term>, quads: &[Quad]) -> Result<(), Memory>
-    ensures { OnOk result (found.new.items ≡ put_all id_cmp found.old.items (flat_map (λ q. label_terms q.graph) quads.now)) }
+    ensures { OnOk result (found.new.items
+        ≡ put_all id_cmp found.old.items (flat_map (λ q. label_terms q.graph) quads.now)) }
 {
     for quad in quads {
         if let Some(name) = &quad.graph {

@@ -20,7 +20,8 @@ impl PlainQuads {
         object: &str,
         graph: &str,
     ) -> Result<(), Memory>
-        ensures { OnOk result (self.new.quads ≡ self.old.quads ++ quad_of subject.now predicate.now object.now graph.now ∷ []) }
+        ensures { OnOk result (self.new.quads
+            ≡ self.old.quads ++ quad_of subject.now predicate.now object.now graph.now ∷ []) }
     {
         let quad = quad_of(alloc, subject, predicate, object, graph)?;
         self.quads.push(quad)

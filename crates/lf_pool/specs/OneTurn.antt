@@ -12,8 +12,9 @@ use Rattle.lf_frames.specs.FrameTexts.{is_frame}
 use Rattle.lf_desk.specs.Rotas.{IsTaken, back, board_number, taken_too}
 use Rattle.lf_desk.specs.Seats.{IsExtended}
 
--- A board that was brought to the version that it was to reach, or an older turn of it that is newer than what is published,
--- was given back to a history; that has one entry more where it was published.
+-- A board that was brought to the version that it was to reach, or an older turn of it that is
+-- newer than what is published, was given back to a history; that has one entry more where it was
+-- published.
 abbrev pub Answered : Job → List Operation → List Operation → Result Turned Memory → Type 0
 Answered job given_at after (Ok turned) =
     (after ≡ given_at ++ entry_of turned)
@@ -22,7 +23,8 @@ Answered job given_at after (Ok turned) =
 Answered job given_at after (Err refused) = after ≡ given_at
 
 -- a job was worked on and given back
-pub record IsGiven (alone : Bool) (seat : ℕ) (before after : List Operation) (away away_after : List ℕ) (job : Job) (result : Result Turned Memory) : Type 0 where
+pub record IsGiven (alone : Bool) (seat : ℕ) (before after : List Operation)
+    (away away_after : List ℕ) (job : Job) (result : Result Turned Memory) : Type 0 where
   pub given_at : List Operation
   pub went : IsExtended alone seat before given_at
   pub answer : Answered job given_at after result
@@ -30,7 +32,9 @@ pub record IsGiven (alone : Bool) (seat : ℕ) (before after : List Operation) (
   pub left : alone ≡ true → away_after ≡ back job.number away
 
 -- a job was taken by the history of that time, worked on and given back
-pub record IsMade (alone : Bool) (seat : ℕ) (before after : List Operation) (away away_after : List ℕ) (taken taken_after : Option (List ℕ)) (result : Result Turned Memory) : Type 0 where
+pub record IsMade (alone : Bool) (seat : ℕ) (before after : List Operation)
+    (away away_after : List ℕ) (taken taken_after : Option (List ℕ)) (result : Result Turned Memory)
+    : Type 0 where
   pub taken_at : List Operation
   pub came : IsExtended alone seat before taken_at
   pub out : List ℕ
@@ -40,21 +44,26 @@ pub record IsMade (alone : Bool) (seat : ℕ) (before after : List Operation) (a
   pub told : taken_after ≡ taken_too taken job.number
 
 -- no job was taken: no frame waits, or no memory was found
-pub record IsNone (alone : Bool) (seat : ℕ) (before after : List Operation) (away away_after : List ℕ) (taken taken_after : Option (List ℕ)) : Type 0 where
+pub record IsNone (alone : Bool) (seat : ℕ) (before after : List Operation)
+    (away away_after : List ℕ) (taken taken_after : Option (List ℕ)) : Type 0 where
   pub came : IsExtended alone seat before after
   pub legal : IsLegal is_frame after
   pub told : taken_after ≡ taken
   pub lone : alone ≡ true → away_after ≡ away
 
-abbrev pub IsTurn : Bool → ℕ → List Operation → List Operation → List ℕ → List ℕ → Option (List ℕ) → Option (List ℕ) → Result Turned Memory → Type 0
+abbrev pub IsTurn :
+    Bool → ℕ → List Operation → List Operation → List ℕ → List ℕ → Option (List ℕ) →
+    Option (List ℕ) → Result Turned Memory → Type 0
 IsTurn alone seat before after away away_after taken taken_after (Ok t.Idle) =
-    (waiting away_after after ≡ []) × IsNone alone seat before after away away_after taken taken_after
+    (waiting away_after after ≡ [])
+    × IsNone alone seat before after away away_after taken taken_after
 IsTurn alone seat before after away away_after taken taken_after (Ok (t.Published name version)) =
     IsMade alone seat before after away away_after taken taken_after (Ok (t.Published name version))
 IsTurn alone seat before after away away_after taken taken_after (Ok (t.Home name version)) =
     IsMade alone seat before after away away_after taken taken_after (Ok (t.Home name version))
 IsTurn alone seat before after away away_after taken taken_after (Ok (t.Superseded name was now)) =
-    IsMade alone seat before after away away_after taken taken_after (Ok (t.Superseded name was now))
+    IsMade alone seat before after away away_after taken taken_after
+    (Ok (t.Superseded name was now))
 IsTurn alone seat before after away away_after taken taken_after (Err refused) =
     IsNone alone seat before after away away_after taken taken_after
     ⊎ IsMade alone seat before after away away_after taken taken_after (Err refused)

@@ -12,20 +12,21 @@ pub fn home_was_published()
     ensures { HomeWasPublished }
 {}
 
-/// `Superseded` comes only where the name was registered anew or retired in the meantime. It tells the number of the text
-/// that is live after the turn, which isn't that of the board.
+/// `Superseded` comes only where the name was registered anew or retired in the meantime. It tells
+/// the number of the text that is live after the turn, which isn't that of the board.
 pub fn superseded_was_changed()
     ensures { SupersededWasChanged }
 {}
 
-/// A board that was turned is published where its text is still live and nothing as new is published.
+/// A board that was turned is published where its text is still live and nothing as new is
+/// published.
 #[tactic(auto, using(crate::proofs::Answering::newer_is_published))]
 pub fn newer_is_published()
     ensures { NewerIsPublished }
 {}
 
-/// A turn of a seat that is alone is idle only where no frame waits. Else it publishes the frame that is next, unless no
-/// memory was found. As many boards are away after it as before.
+/// A turn of a seat that is alone is idle only where no frame waits. Else it publishes the frame
+/// that is next, unless no memory was found. As many boards are away after it as before.
 #[tactic(auto, using(crate::proofs::Lone::lone_turns_publish))]
 pub fn lone_turns_publish()
     ensures { LoneTurnsPublish }

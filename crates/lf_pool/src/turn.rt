@@ -11,16 +11,17 @@ use lf_desk::Rota;
 use std::alloc::Global;
 use std::sync::ledger::Ledger;
 
-/// Takes a board, brings it to the version that it is to reach, and gives it back. `Idle` comes only where no frame waits
-/// after the call. `Published` comes with its publication as the last entry. Where no memory is found the board is given
-/// back all the same, and the answer is `Published` where that published an older turn of it, else `Memory`; then nothing
-/// was published.
+/// Takes a board, brings it to the version that it is to reach, and gives it back. `Idle` comes
+/// only where no frame waits after the call. `Published` comes with its publication as the last
+/// entry. Where no memory is found the board is given back all the same, and the answer is
+/// `Published` where that published an older turn of it, else `Memory`; then nothing was published.
 pub fn one_turn<R: Rota, L: Ledger>(
     alloc: Global,
     rota: &mut R,
     steps: &mut Steps<L>,
 ) -> Result<Turned, Memory>
-    ensures turn { IsTurn (R.alone rota.old) (R.seat rota.old) (R.history rota.old) (R.history rota.new) (R.away rota.old) (R.away rota.new) (R.taken rota.old) (R.taken rota.new) result }
+    ensures turn { IsTurn (R.alone rota.old) (R.seat rota.old) (R.history rota.old) (R.history rota.new)
+        (R.away rota.old) (R.away rota.new) (R.taken rota.old) (R.taken rota.new) result }
     ensures same_seat { R.seat rota.new ≡ R.seat rota.old }
     ensures same_alone { R.alone rota.new ≡ R.alone rota.old }
 {
@@ -38,7 +39,8 @@ fn turn_job<R: Rota, L: Ledger>(
     steps: &mut Steps<L>,
 ) -> Result<Turned, Memory>
     requires own { IsOwn (R.history rota.old) (R.meaning job) (R.told job) }
-    ensures given { IsGiven (R.alone rota.old) (R.seat rota.old) (R.history rota.old) (R.history rota.new) (R.away rota.old) (R.away rota.new) (R.told job) result }
+    ensures given { IsGiven (R.alone rota.old) (R.seat rota.old) (R.history rota.old) (R.history rota.new)
+        (R.away rota.old) (R.away rota.new) (R.told job) result }
     ensures same_seat { R.seat rota.new ≡ R.seat rota.old }
     ensures same_alone { R.alone rota.new ≡ R.alone rota.old }
     ensures same_taken { R.taken rota.new ≡ R.taken rota.old }
@@ -53,7 +55,8 @@ fn turn_job<R: Rota, L: Ledger>(
 // Gives a job back that found no memory to be worked on.
 fn give_older<R: Rota>(alloc: Global, rota: &mut R, job: R::Job) -> Result<Turned, Memory>
     requires own { IsOwn (R.history rota.old) (R.meaning job) (R.told job) }
-    ensures given { IsGiven (R.alone rota.old) (R.seat rota.old) (R.history rota.old) (R.history rota.new) (R.away rota.old) (R.away rota.new) (R.told job) result }
+    ensures given { IsGiven (R.alone rota.old) (R.seat rota.old) (R.history rota.old) (R.history rota.new)
+        (R.away rota.old) (R.away rota.new) (R.told job) result }
     ensures same_seat { R.seat rota.new ≡ R.seat rota.old }
     ensures same_alone { R.alone rota.new ≡ R.alone rota.old }
     ensures same_taken { R.taken rota.new ≡ R.taken rota.old }

@@ -51,7 +51,8 @@ module _ {K V : Type 0} where
       pub above : BeginsAbove cmp key (join (drop (suc place) gs))
 
 -- the groups with the one at the place written anew, as one group or two
-pub record IsRebuilt {P : Type 0} (old : List (List P)) (place : ℕ) (pairs : List P) (new : List (List P)) : Type 0 where
+pub record IsRebuilt {P : Type 0} (old : List (List P)) (place : ℕ) (pairs : List P)
+    (new : List (List P)) : Type 0 where
   pub joined : join new ≡ join (take place old) ++ (pairs ++ join (drop (suc place) old))
   pub no_empty : AllByRecursion HasPair old → AllByRecursion HasPair new
 

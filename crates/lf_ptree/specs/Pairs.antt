@@ -26,26 +26,31 @@ module _ {K V : Type 0} where
     abbrev pub key_order : K → K × V → Ordering
     key_order key pair = cmp pair.0 key
 
-    -- the pairs with this one: in the place of an older one of its key, or before the first greater key
+    -- the pairs with this one: in the place of an older one of its key, or before the first greater
+    -- key
     abbrev pub put_pair : K → V → List (K × V) → List (K × V)
     put_pair key value [] = (key, value) ∷ []
     put_pair key value (first ∷ rest) =
-        match_ordering (cmp first.0 key) (first ∷ put_pair key value rest) ((key, value) ∷ rest) ((key, value) ∷ first ∷ rest)
+        match_ordering (cmp first.0 key) (first ∷ put_pair key value rest) ((key, value) ∷ rest)
+        ((key, value) ∷ first ∷ rest)
 
     -- the value at a key
     abbrev pub value_at : K → List (K × V) → Option V
     value_at key [] = None
-    value_at key (first ∷ rest) = if is_eq (cmp first.0 key) then Some first.1 else value_at key rest
+    value_at key (first ∷ rest) =
+        if is_eq (cmp first.0 key) then Some first.1 else value_at key rest
 
     -- the pairs without that of the key
     abbrev pub without_key : K → List (K × V) → List (K × V)
     without_key key [] = []
-    without_key key (first ∷ rest) = match_ordering (cmp first.0 key) (first ∷ without_key key rest) rest (first ∷ rest)
+    without_key key (first ∷ rest) =
+        match_ordering (cmp first.0 key) (first ∷ without_key key rest) rest (first ∷ rest)
 
     -- the pairs from the first one on whose key isn't below the key
     abbrev pub pairs_from : K → List (K × V) → List (K × V)
     pairs_from low [] = []
-    pairs_from low (first ∷ rest) = if is_lt (cmp first.0 low) then pairs_from low rest else first ∷ rest
+    pairs_from low (first ∷ rest) =
+        if is_lt (cmp first.0 low) then pairs_from low rest else first ∷ rest
 
     -- the pairs up to the first one whose key isn't below the key
     abbrev pub pairs_below : K → List (K × V) → List (K × V)
@@ -59,8 +64,11 @@ module _ {K V : Type 0} where
     -- the key would go at the place: lower keys before it, and greater keys from it on
     pub record IsGapFor (pairs : List (K × V)) (key : K) (place : ℕ) : Type 0 where
       pub in_range : place ≤ length pairs
-      pub lower_before : (j : ℕ) (d : K × V) → j < place → key_order key (slice_index_or pairs j d) ≡ Less
-      pub greater_after : (j : ℕ) (d : K × V) → place ≤ j → j < length pairs → key_order key (slice_index_or pairs j d) ≡ Greater
+      pub lower_before :
+          (j : ℕ) (d : K × V) → j < place → key_order key (slice_index_or pairs j d) ≡ Less
+      pub greater_after :
+          (j : ℕ) (d : K × V) → place ≤ j → j < length pairs →
+          key_order key (slice_index_or pairs j d) ≡ Greater
 
     -- every key is below the key
     abbrev pub AllBelow : K → List (K × V) → Type 0

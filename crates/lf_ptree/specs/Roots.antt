@@ -32,7 +32,8 @@ module _ {K V : Type 0} where
     pub only : mid_groups middles ≡ (pair ∷ []) ∷ []
     pub full : AllFull middles
 
-  pub record IsRoot (cmp : K → K → Ordering) (middles : List (Arc (Middle K V) Global)) : Type 0 where
+  pub record IsRoot (cmp : K → K → Ordering) (middles : List (Arc (Middle K V) Global)) :
+      Type 0 where
     pub full : AllFull middles
     pub grouped : IsGrouped cmp (mid_groups middles)
 
@@ -40,7 +41,8 @@ module _ {K V : Type 0} where
   middle_of pages = record { pages = pages }
 
   -- closed middle pages, the pages of the open one and those that are left, of all pages
-  pub record IsGathering (closed : List (Arc (Middle K V) Global)) (gathered left all : List (Arc (Page K V) Global)) : Type 0 where
+  pub record IsGathering (closed : List (Arc (Middle K V) Global))
+      (gathered left all : List (Arc (Page K V) Global)) : Type 0 where
     pub full : AllFull closed
     pub no_empty : AllByRecursion HasPair (mid_groups closed)
     pub gathered_full : HasFullPages gathered

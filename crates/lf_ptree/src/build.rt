@@ -39,7 +39,8 @@ fn with_last<K: Drop, V: Drop>(
     pages: Vec<Arc<Page<K, V>>>,
     page: Vec<Arc<(K, V)>>,
 ) -> Result<Vec<Arc<Page<K, V>>>, Memory>
-    ensures { IfOk result (λ made. groups made.items ≡ with_group (groups pages.items) (pairs_of page.items)) }
+    ensures { IfOk result
+        (λ made. groups made.items ≡ with_group (groups pages.items) (pairs_of page.items)) }
 {
     let mut made = pages;
     if page.is_empty() {
@@ -76,7 +77,8 @@ fn close_middle<K: Drop, V: Drop>(
     middles: &mut Vec<Arc<Middle<K, V>>>,
     pages: Vec<Arc<Page<K, V>>>,
 ) -> Result<(), Memory>
-    ensures { OnOk result (map arc_value middles.new.items ≡ map arc_value middles.old.items ++ middle_of pages ∷ []) }
+    ensures { OnOk result (map arc_value middles.new.items
+        ≡ map arc_value middles.old.items ++ middle_of pages ∷ []) }
 {
     middles.push(Arc::new(alloc, Middle { pages })?)?;
     Ok(())
@@ -88,7 +90,9 @@ fn with_last_middle<K: Drop, V: Drop>(
     middles: Vec<Arc<Middle<K, V>>>,
     pages: Vec<Arc<Page<K, V>>>,
 ) -> Result<Vec<Arc<Middle<K, V>>>, Memory>
-    ensures { IfOk result (λ made. (all : List (Arc (Page K V) Global)) → IsGathering middles.items pages.items [] all → IsGathering made.items [] [] all) }
+    ensures { IfOk result (λ made.
+        (all : List (Arc (Page K V) Global)) → IsGathering middles.items pages.items [] all →
+        IsGathering made.items [] [] all) }
 {
     let mut made = middles;
     if pages.is_empty() {

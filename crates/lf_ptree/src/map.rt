@@ -16,10 +16,10 @@ use std::sync::Arc;
 
 /// An ordered map. Contracts see the list of its pairs in order of their keys.
 ///
-/// A map doesn't change: `insert` and `remove` give another one, which shares all pages but those on the way
-/// to the key, and every pair. It has three levels: pages of up to 64 pairs, pages of up to 128 pages, and
-/// the root, which has a handle for some 2,000 to 8,192 pairs. For n pairs a look takes some log n
-/// comparisons. A change takes them too, and copies a page of each level.
+/// A map doesn't change: `insert` and `remove` give another one, which shares all pages but those
+/// on the way to the key, and every pair. It has three levels: pages of up to 64 pairs, pages of up
+/// to 128 pages, and the root, which has a handle for some 2,000 to 8,192 pairs. For n pairs a look
+/// takes some log n comparisons. A change takes them too, and copies a page of each level.
 #[derive(Drop)]
 pub struct PMap<K: Ord, V> {
     middles: Vec<Arc<Middle<K, V>>>,
@@ -80,8 +80,8 @@ impl<K: Ord, V> PMap<K, V> {
         all_of(self.middles.as_slice())
     }
 
-    /// The pairs from `low` on, in order of their keys. The first is found in some log n comparisons, and each other one in constant
-    /// time.
+    /// The pairs from `low` on, in order of their keys. The first is found in some log n
+    /// comparisons, and each other one in constant time.
     pub fn from<'a>(&'a self, low: &K) -> Pairs<'a, K, V>
         ensures { pairs_left result ≡ pairs_from K.cmp low.now self.now }
     {
@@ -97,7 +97,8 @@ impl<K: Ord, V> PMap<K, V> {
 }
 
 impl<K: Ord + Drop, V: Drop> PMap<K, V> {
-    /// The map of pairs that stand in order of their keys. It takes time in proportion to their number.
+    /// The map of pairs that stand in order of their keys. It takes time in proportion to their
+    /// number.
     pub fn from_sorted(alloc: Global, pairs: Vec<(K, V)>) -> Result<PMap<K, V>, Memory>
         requires { Ascends K.cmp pairs.items }
         ensures { IfOk result (λ made. made ≡ pairs.items) }

@@ -49,7 +49,8 @@ pub fn set_at<T: Drop>(
     value: T,
 ) -> Result<Vec<Arc<T>>, Memory>
     requires { at < length items.now }
-    ensures { IfOk result (λ made. map arc_value made.items ≡ slice_set (map arc_value items.now) at value) }
+    ensures { IfOk result
+        (λ made. map arc_value made.items ≡ slice_set (map arc_value items.now) at value) }
 {
     let mut made = share(alloc, items)?;
     made[at] = Arc::new(alloc, value)?;

@@ -67,7 +67,8 @@ fn with_page<K: Drop, V: Drop>(
 ) -> Result<Vec<Arc<Page<K, V>>>, Memory>
     requires in_range { at < length pages.now }
     requires some { HasPair (pairs_of pairs.items) }
-    ensures { IfOk result (λ made. IsRebuilt (groups pages.now) at (pairs_of pairs.items) (groups made.items)) }
+    ensures { IfOk result
+        (λ made. IsRebuilt (groups pages.now) at (pairs_of pairs.items) (groups made.items)) }
 {
     if pairs.len() <= PAGE {
         return set_at(alloc, pages, at, Page { pairs });

@@ -1,4 +1,5 @@
-//! Pairs that are taken out, level by level. A page that loses its last pair goes; pages are never joined. `PMap::remove` calls it.
+//! Pairs that are taken out, level by level. A page that loses its last pair goes; pages are never
+//! joined. `PMap::remove` calls it.
 ghost use Rattle.std.specs.Prelude.{◌≡◌, ◌<◌, IfOk, length, map};
 ghost use Rattle.std.specs.List.{remove};
 ghost use Rattle.std.specs.Arc.{arc_value};
@@ -46,7 +47,8 @@ fn with_fewer_pairs<K: Drop, V: Drop>(
     pairs: Vec<Arc<(K, V)>>,
 ) -> Result<Vec<Arc<Page<K, V>>>, Memory>
     requires { at < length pages.now }
-    ensures { IfOk result (λ made. IsRebuilt (groups pages.now) at (pairs_of pairs.items) (groups made.items)) }
+    ensures { IfOk result
+        (λ made. IsRebuilt (groups pages.now) at (pairs_of pairs.items) (groups made.items)) }
 {
     if pairs.is_empty() {
         return remove_at(alloc, pages, at);
@@ -81,7 +83,8 @@ fn with_fewer_pages<K: Drop, V: Drop>(
 ) -> Result<Vec<Arc<Middle<K, V>>>, Memory>
     requires in_range { at < length middles.now }
     requires full { HasFullPages pages.items }
-    ensures rebuilt { IfOk result (λ made. IsRebuilt (mid_groups middles.now) at (flat pages.items) (mid_groups made.items)) }
+    ensures rebuilt { IfOk result (λ made.
+        IsRebuilt (mid_groups middles.now) at (flat pages.items) (mid_groups made.items)) }
     ensures full { IfOk result (λ made. AllFull middles.now → AllFull made.items) }
 {
     if pages.is_empty() {
@@ -97,7 +100,8 @@ pub fn without_below<K: Ord + Drop, V: Drop>(
     key: &K,
 ) -> Result<Vec<Arc<Middle<K, V>>>, Memory>
     requires { IsRoot K.cmp middles.now }
-    ensures pairs { IfOk result (λ made. all_pairs made.items ≡ without_key K.cmp key.now (all_pairs middles.now)) }
+    ensures pairs { IfOk result
+        (λ made. all_pairs made.items ≡ without_key K.cmp key.now (all_pairs middles.now)) }
     ensures map { IfOk result (λ made. IsRoot K.cmp made.items) }
 {
     if middles.is_empty() {

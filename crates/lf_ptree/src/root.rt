@@ -13,8 +13,8 @@ use std::alloc::Global;
 use std::cmp::Ordering;
 use std::sync::Arc;
 
-// The most pages of a middle page. They are many, so that the root, which each change copies, has few handles. The proof of
-// `with_middle` names the half of it.
+// The most pages of a middle page. They are many, so that the root, which each change copies, has
+// few handles. The proof of `with_middle` names the half of it.
 const MIDDLE: usize = 128;
 
 /// A page of pages.
@@ -69,7 +69,8 @@ fn with_middle<K: Drop, V: Drop>(
     requires in_range { at < length middles.now }
     requires some { HasPair (flat pages.items) }
     requires full { HasFullPages pages.items }
-    ensures rebuilt { IfOk result (λ made. IsRebuilt (mid_groups middles.now) at (flat pages.items) (mid_groups made.items)) }
+    ensures rebuilt { IfOk result (λ made.
+        IsRebuilt (mid_groups middles.now) at (flat pages.items) (mid_groups made.items)) }
     ensures full { IfOk result (λ made. AllFull middles.now → AllFull made.items) }
 {
     if pages.len() <= MIDDLE {
@@ -103,7 +104,8 @@ pub fn put_below<K: Ord + Drop, V: Drop>(
     value: V,
 ) -> Result<Vec<Arc<Middle<K, V>>>, Memory>
     requires { IsRoot K.cmp middles.now }
-    ensures pairs { IfOk result (λ made. all_pairs made.items ≡ put_pair K.cmp key value (all_pairs middles.now)) }
+    ensures pairs { IfOk result
+        (λ made. all_pairs made.items ≡ put_pair K.cmp key value (all_pairs middles.now)) }
     ensures map { IfOk result (λ made. IsRoot K.cmp made.items) }
 {
     if middles.is_empty() {

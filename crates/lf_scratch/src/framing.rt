@@ -34,7 +34,9 @@ fn outcomes_until<N: Nodes, L: Ledger>(
     steps: &mut Steps<L>,
 ) -> Result<OutcomeList, Memory>
     requires keys { AreKeys known.now.keys (keys (N.quads nodes.old) (framed_graph frame.now.top_graph)) }
-    ensures { IfOk result (λ made. gathered 0 (map outcome_data made) ≡ gathered 0 (map (outcome (of_dataset (N.quads nodes.old)) frame.now) terms.now)) }
+    ensures { IfOk result (λ made.
+        gathered 0 (map outcome_data made)
+        ≡ gathered 0 (map (outcome (of_dataset (N.quads nodes.old)) frame.now) terms.now)) }
 {
     let mut made = OutcomeList::new(alloc);
     let mut room = item_limit();
@@ -61,7 +63,9 @@ fn deciding_outcomes<L: Ledger>(
     requires name { blank.name ≡ L.name }
     requires parts { blank.parts ≡ L.parts }
     requires one { 0 < blank.parts }
-    ensures { IfOk result (λ made. gathered 0 (map outcome_data made) ≡ gathered 0 (map (outcome (of_dataset index.now) frame.now) (terms index.now))) }
+    ensures { IfOk result (λ made.
+        gathered 0 (map outcome_data made)
+        ≡ gathered 0 (map (outcome (of_dataset index.now) frame.now) (terms index.now))) }
 {
     let mut steps: Steps<L> = Steps::of(blank);
     let terms = index.terms(alloc)?;

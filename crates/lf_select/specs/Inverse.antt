@@ -11,14 +11,16 @@ use Rattle.lf_select.specs.Names.{AreNamed, ArePrefixes, Names}
 use Rattle.lf_select.specs.Prefixes.{AreGrouped}
 use Rattle.lf_select.specs.Shelves.{IsFiled, Shelves}
 
-pub record IsInverse (table : TermTable) (shelves : Shelves) (names prefix_names : Names) (prefixes : Prefixes) (lone : Pick) : Type 0 where
+pub record IsInverse (table : TermTable) (shelves : Shelves) (names prefix_names : Names)
+    (prefixes : Prefixes) (lone : Pick) : Type 0 where
   pub filed : IsFiled table shelves
   pub named : AreNamed table names
   pub prefixes_named : ArePrefixes table prefix_names
   pub grouped : AreGrouped table prefixes.groups prefixes.lengths.items
   pub alone : lone ≡ no_value
 
--- a compacted IRI, or none, which is the error `IRI confused with prefix`; want of memory says nothing
+-- a compacted IRI, or none, which is the error `IRI confused with prefix`; want of memory says
+-- nothing
 abbrev pub Compacts : Result (List ℕ) SelectErr → Option (List ℕ) → Type 0
 Compacts (Ok text) compacted = compacted ≡ Some text
 Compacts (Err e.Confused) compacted = compacted ≡ None

@@ -1,4 +1,5 @@
--- The keys under which an IRI's terms are filed: numbers stand for kinds and containers, which have no order.
+-- The keys under which an IRI's terms are filed: numbers stand for kinds and containers, which have
+-- no order.
 use Rattle.std.specs.Prelude.{List, ◌∷◌, ℕ, nat_eq, Bool, ◌&&◌, Option, map}
 use Rattle.std.specs.Ordering.{nat_cmp, ordering_then}
 use Rattle.std.specs.declared.cmp.Ordering.{Ordering}
@@ -27,11 +28,13 @@ container_number container.Language = 3
 container_number container.LanguageSet = 4
 
 abbrev pub key_of : Container → PickKind → List ℕ → SlotKey
-key_of container kind slot = record { kind = kind_number kind; container = container_number container; slot = slot }
+key_of container kind slot =
+    record { kind = kind_number kind; container = container_number container; slot = slot }
 
 -- the order of keys
 abbrev pub key_cmp : SlotKey → SlotKey → Ordering
-key_cmp a b = ordering_then (nat_cmp a.kind b.kind) (ordering_then (nat_cmp a.container b.container) (slice_cmp nat_cmp a.slot b.slot))
+key_cmp a b = ordering_then (nat_cmp a.kind b.kind)
+    (ordering_then (nat_cmp a.container b.container) (slice_cmp nat_cmp a.slot b.slot))
 
 -- two keys are one
 abbrev pub key_eq : SlotKey → SlotKey → Bool

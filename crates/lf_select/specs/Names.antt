@@ -20,17 +20,22 @@ named names name = get (slice_cmp nat_cmp) names name
 -- the names of the terms from a place on
 abbrev pub AreNamedFrom : TermTable → Names → ℕ → Type 0
 AreNamedFrom table names place =
-    (name : List ℕ) → option_and_then (slice_get table.terms) (named names name) ≡ find_term name (drop place table.terms)
+    (name : List ℕ) →
+    option_and_then (slice_get table.terms) (named names name)
+    ≡ find_term name (drop place table.terms)
 
 abbrev pub AreNamed : TermTable → Names → Type 0
-AreNamed table names = (name : List ℕ) → option_and_then (slice_get table.terms) (named names name) ≡ find_term name table.terms
+AreNamed table names = (name : List ℕ) →
+    option_and_then (slice_get table.terms) (named names name) ≡ find_term name table.terms
 
 -- a term that may be a prefix has this name
 abbrev pub is_prefix_name : List TermDef → List ℕ → Bool
 is_prefix_name terms name = list_any (λ term. text_eq term.name name && term.prefix) terms
 
 abbrev pub ArePrefixesFrom : TermTable → Names → ℕ → Type 0
-ArePrefixesFrom table names place = (name : List ℕ) → is_some (named names name) ≡ is_prefix_name (drop place table.terms) name
+ArePrefixesFrom table names place =
+    (name : List ℕ) → is_some (named names name) ≡ is_prefix_name (drop place table.terms) name
 
 abbrev pub ArePrefixes : TermTable → Names → Type 0
-ArePrefixes table names = (name : List ℕ) → is_some (named names name) ≡ is_prefix_name table.terms name
+ArePrefixes table names =
+    (name : List ℕ) → is_some (named names name) ≡ is_prefix_name table.terms name

@@ -47,12 +47,18 @@ pub record IsPrefixAt (table : TermTable) (iri : List ℕ) (key : Ranked) (place
 -- a name is found under an IRI, and the IRI's length among the lengths
 abbrev pub IsGrouped : Groups → List ℕ → List ℕ → List ℕ → Type 0
 IsGrouped groups lengths iri name =
-    (is_some (prefix_at groups iri (ranked name)) ≡ true) × (list_any (λ n. nat_eq n (length iri)) lengths ≡ true)
+    (is_some (prefix_at groups iri (ranked name)) ≡ true)
+    × (list_any (λ n. nat_eq n (length iri)) lengths ≡ true)
 
 -- what is found are prefixes, and each term from a place on that may be a prefix is found
-pub record AreGroupedFrom (table : TermTable) (groups : Groups) (lengths : List ℕ) (from : ℕ) : Type 0 where
-  pub prefixes : (iri : List ℕ) (key : Ranked) (place : ℕ) → prefix_at groups iri key ≡ Some place → IsPrefixAt table iri key place
-  pub found : (place : ℕ) (term : TermDef) (iri : List ℕ) → from ≤ place → slice_get table.terms place ≡ Some term → term.prefix ≡ true
+pub record AreGroupedFrom (table : TermTable) (groups : Groups) (lengths : List ℕ) (from : ℕ) :
+    Type 0 where
+  pub prefixes :
+      (iri : List ℕ) (key : Ranked) (place : ℕ) → prefix_at groups iri key ≡ Some place →
+      IsPrefixAt table iri key place
+  pub found :
+      (place : ℕ) (term : TermDef) (iri : List ℕ) → from ≤ place →
+      slice_get table.terms place ≡ Some term → term.prefix ≡ true
       → term.iri ≡ Some iri → IsGrouped groups lengths iri term.name
 
 abbrev pub AreGrouped : TermTable → Groups → List ℕ → Type 0

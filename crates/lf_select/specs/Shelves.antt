@@ -45,7 +45,8 @@ comes_first term (Some other) = ranks_less (name_rank other) (name_rank term)
 
 -- the term has the IRI and the key
 abbrev pub is_under : TermTable → List ℕ → SlotKey → TermDef → Bool
-is_under table iri key term = stands_for iri term && list_any (λ own. key_eq own key) (keys_of table term)
+is_under table iri key term =
+    stands_for iri term && list_any (λ own. key_eq own key) (keys_of table term)
 
 -- the least of the terms with an IRI and a key
 abbrev pub best_under : TermTable → List TermDef → List ℕ → SlotKey → Option TermDef
@@ -54,23 +55,28 @@ best_under table terms iri key = least name_rank (filter (is_under table iri key
 -- the terms from a place on are filed
 abbrev pub IsFiledFrom : TermTable → Shelves → ℕ → Type 0
 IsFiledFrom table shelves place =
-    (iri : List ℕ) (key : SlotKey) → term_at table.terms shelves iri key ≡ best_under table (drop place table.terms) iri key
+    (iri : List ℕ) (key : SlotKey) →
+    term_at table.terms shelves iri key ≡ best_under table (drop place table.terms) iri key
 
 -- all terms are filed
 abbrev pub IsFiled : TermTable → Shelves → Type 0
 IsFiled table shelves =
-    (iri : List ℕ) (key : SlotKey) → term_at table.terms shelves iri key ≡ best_under table table.terms iri key
+    (iri : List ℕ) (key : SlotKey) →
+    term_at table.terms shelves iri key ≡ best_under table table.terms iri key
 
 -- the term at a place is filed under an IRI and a key, where no other term comes before it
 abbrev pub Files : List TermDef → Shelves → Shelves → List ℕ → SlotKey → ℕ → Type 0
 Files terms before after iri key place =
-    (term : TermDef) → slice_get terms place ≡ Some term → (q : List ℕ) (k : SlotKey) → term_at terms after q k
-    ≡ (if text_eq iri q && key_eq key k then lesser name_rank term (term_at terms before q k) else term_at terms before q k)
+    (term : TermDef) → slice_get terms place ≡ Some term → (q : List ℕ) (k : SlotKey) →
+    term_at terms after q k
+    ≡ (if text_eq iri q && key_eq key k then lesser name_rank term (term_at terms before q k)
+    else term_at terms before q k)
 
 -- the term at a place is filed under an IRI and these keys, beside all later terms
 abbrev pub IsFiledUnder : TermTable → Shelves → List ℕ → ℕ → List SlotKey → Type 0
 IsFiledUnder table shelves iri place own_keys =
-    (term : TermDef) → slice_get table.terms place ≡ Some term → (q : List ℕ) (k : SlotKey) → term_at table.terms shelves q k
+    (term : TermDef) → slice_get table.terms place ≡ Some term → (q : List ℕ) (k : SlotKey) →
+    term_at table.terms shelves q k
     ≡ (if text_eq iri q && list_any (λ own. key_eq own k) own_keys
     then lesser name_rank term (best_under table (drop (place + 1) table.terms) q k)
     else best_under table (drop (place + 1) table.terms) q k)

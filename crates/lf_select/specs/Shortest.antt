@@ -15,7 +15,8 @@ text_rank text = length text ∷ text
 -- a compact IRI that may be used
 abbrev pub if_free : TermTable → List ℕ → Bool → Option (List ℕ) → Option (List ℕ)
 if_free table iri has_value None = None
-if_free table iri has_value (Some compact) = if is_free iri has_value (term_named table compact) then Some compact else None
+if_free table iri has_value (Some compact) =
+    if is_free iri has_value (term_named table compact) then Some compact else None
 
 -- the compact IRI that a term makes, where it may be used
 abbrev pub candidate : TermTable → List ℕ → Bool → TermDef → Option (List ℕ)
@@ -23,7 +24,8 @@ candidate table iri has_value term = if_free table iri has_value (compact_iri ir
 
 -- and the one that the term at a place makes
 abbrev pub candidate_at : TermTable → List ℕ → Bool → ℕ → Option (List ℕ)
-candidate_at table iri has_value place = option_and_then (candidate table iri has_value) (slice_get table.terms place)
+candidate_at table iri has_value place =
+    option_and_then (candidate table iri has_value) (slice_get table.terms place)
 
 -- the better of a compact IRI and the best so far
 abbrev pub nearer : Option (List ℕ) → Option (List ℕ) → Option (List ℕ)
@@ -36,11 +38,13 @@ candidate_of table iri has_value entry = candidate_at table iri has_value entry.
 
 -- the best of those that the terms of some entries make
 abbrev pub best_of : TermTable → List ℕ → Bool → List (Ranked × ℕ) → Option (List ℕ)
-best_of table iri has_value entries = least text_rank (filter_map (candidate_of table iri has_value) entries)
+best_of table iri has_value entries =
+    least text_rank (filter_map (candidate_of table iri has_value) entries)
 
 -- the terms for the front of this length
 abbrev pub group : Groups → List ℕ → ℕ → Option Ranks
-group groups iri front = if nat_lt front (length iri) then ranks_at groups (take front iri) else None
+group groups iri front =
+    if nat_lt front (length iri) then ranks_at groups (take front iri) else None
 
 abbrev pub entries_at : Groups → List ℕ → ℕ → List (Ranked × ℕ)
 entries_at groups iri front = option_map_or (λ ranks. ranks.entries) (group groups iri front) []
@@ -49,4 +53,5 @@ entries_at groups iri front = option_map_or (λ ranks. ranks.entries) (group gro
 abbrev pub shortest : TermTable → Groups → List ℕ → Bool → List ℕ → Option (List ℕ)
 shortest table groups iri has_value [] = None
 shortest table groups iri has_value (front ∷ fronts) =
-    nearer (best_of table iri has_value (entries_at groups iri front)) (shortest table groups iri has_value fronts)
+    nearer (best_of table iri has_value (entries_at groups iri front))
+    (shortest table groups iri has_value fronts)

@@ -52,8 +52,8 @@ fn first_in_containers<'a>(
     Ok(None)
 }
 
-/// The term that is chosen for an IRI and a pick (JSON-LD 1.1 Processing Algorithms and API, section 6.3). Its time grows with
-/// the logarithm of the terms and with the IRI's bytes.
+/// The term that is chosen for an IRI and a pick (JSON-LD 1.1 Processing Algorithms and API,
+/// section 6.3). Its time grows with the logarithm of the terms and with the IRI's bytes.
 pub fn chosen_by<'a>(
     alloc: Global,
     table: &'a TermTable,

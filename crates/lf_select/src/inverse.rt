@@ -21,8 +21,8 @@ use lf_rdf::Term;
 use std::alloc::Global;
 use std::marker::Model;
 
-/// A context that is asked for the term of an IRI and a value (JSON-LD 1.1 Processing Algorithms and API, section 4.3:
-/// inverse context). Contracts see it as the context.
+/// A context that is asked for the term of an IRI and a value (JSON-LD 1.1 Processing Algorithms
+/// and API, section 4.3: inverse context). Contracts see it as the context.
 #[derive(Drop)]
 pub struct Inverse {
     table: TermTable,
@@ -80,7 +80,8 @@ impl Inverse {
         term_named(&self.table, &self.names, name)
     }
 
-    /// The term that is chosen for an IRI and what a value asks for (JSON-LD 1.1 Processing Algorithms and API, section 6.3).
+    /// The term that is chosen for an IRI and what a value asks for (JSON-LD 1.1 Processing
+    /// Algorithms and API, section 6.3).
     pub fn chosen(&self, alloc: Global, iri: &Text, pick: &Pick) -> Result<Option<&TermDef>, Memory>
         ensures { IfOk result (λ found. option_copied found ≡ chosen self.now iri.now pick.now) }
     {
@@ -148,9 +149,9 @@ impl Inverse {
         }
     }
 
-    /// The compacted IRI (JSON-LD 1.1 Processing Algorithms and API, section 6.2). `Confused` is the error `IRI confused with
-    /// prefix`. Its time grows with the logarithm of the terms and with the IRI's bytes, and with the
-    /// compact IRIs that are terms and so may not be used.
+    /// The compacted IRI (JSON-LD 1.1 Processing Algorithms and API, section 6.2). `Confused` is
+    /// the error `IRI confused with prefix`. Its time grows with the logarithm of the terms and
+    /// with the IRI's bytes, and with the compact IRIs that are terms and so may not be used.
     pub fn compact(
         &self,
         alloc: Global,
@@ -168,8 +169,8 @@ impl Inverse {
         }
     }
 
-    /// The compacted IRI of a property, under the term that is chosen for it, if any: so a caller that asks for the term too
-    /// looks it up once.
+    /// The compacted IRI of a property, under the term that is chosen for it, if any: so a caller
+    /// that asks for the term too looks it up once.
     pub fn compact_under(
         &self,
         alloc: Global,
@@ -188,7 +189,8 @@ impl Inverse {
 
     // The compacted IRI of a property for which no term is chosen.
     fn unchosen(&self, alloc: Global, iri: &Text, pick: &Pick) -> Result<Text, SelectErr>
-        ensures { Compacts result (option_or (by_vocab self.now iri.now) (by_prefix_or_whole self.now iri.now pick.now.has_value)) }
+        ensures { Compacts result (option_or (by_vocab self.now iri.now)
+            (by_prefix_or_whole self.now iri.now pick.now.has_value)) }
     {
         match self.by_vocab(alloc, iri)? {
             Some(rest) => Ok(rest),
@@ -235,8 +237,8 @@ fn blank_id(alloc: Global, label: &Text) -> Result<Text, Memory>
     Text::from_string(id)
 }
 
-/// The compacted IRI by a context (JSON-LD 1.1 Processing Algorithms and API, section 6.2), for one IRI: the context is turned
-/// round for this call.
+/// The compacted IRI by a context (JSON-LD 1.1 Processing Algorithms and API, section 6.2), for one
+/// IRI: the context is turned round for this call.
 pub fn compact_iri(
     alloc: Global,
     table: &TermTable,

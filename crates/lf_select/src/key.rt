@@ -7,8 +7,8 @@ use lf_base::{Memory, Text, TryCopy};
 use lf_model::{Container, TermDef, TermTable};
 use std::alloc::Global;
 
-/// A container and a slot (JSON-LD 1.1 Processing Algorithms and API, section 4.3), by numbers where their types have no
-/// order.
+/// A container and a slot (JSON-LD 1.1 Processing Algorithms and API, section 4.3), by numbers
+/// where their types have no order.
 #[derive(Debug, PartialEq, Eq, PartialOrd, Ord, Drop)]
 pub struct SlotKey {
     kind: u8,

@@ -1,4 +1,5 @@
-//! Which term of a context stands for an IRI and a value, by tables that are made once for a document.
+//! Which term of a context stands for an IRI and a value, by tables that are made once for a
+//! document.
 #![tactic(auto)]
 
 mod choose;

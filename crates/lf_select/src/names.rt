@@ -72,7 +72,8 @@ pub fn names_of(alloc: Global, table: &TermTable) -> Result<Names, Memory>
     Ok(names)
 }
 
-/// The names of a table's terms that may be prefixes. Its time grows as n log n in them and their bytes.
+/// The names of a table's terms that may be prefixes. Its time grows as n log n in them and their
+/// bytes.
 pub fn prefix_names_of(alloc: Global, table: &TermTable) -> Result<Names, Memory>
     ensures { IfOk result (λ prefixes. ArePrefixes table.now prefixes) }
 {

@@ -1,4 +1,5 @@
-//! The terms that may be prefixes by their IRIs, and those of one IRI in order of their names, made once from a table.
+//! The terms that may be prefixes by their IRIs, and those of one IRI in order of their names, made
+//! once from a table.
 ghost use Rattle.std.specs.Prelude.{◌≡◌, ℕ, ◌+◌, ◌<◌, List, nat_eq, ◌&&◌, ◌||◌, IfOk, OnOk, Some, if◌then◌else◌, length};
 ghost use Rattle.std.specs.List.{list_any};
 ghost use Rattle.lf_rdf.specs.Equality.{text_eq};

@@ -37,7 +37,8 @@ fn joined(alloc: Global, prefix: &str, rest: &str) -> Result<Text, Memory>
     Text::from_string(text)
 }
 
-// The compact IRI that a term makes of an IRI (JSON-LD 1.1 Processing Algorithms and API, section 6.2.2, step 7).
+// The compact IRI that a term makes of an IRI (JSON-LD 1.1 Processing Algorithms and API, section
+// 6.2.2, step 7).
 fn compact_by(alloc: Global, iri: &Text, term: &TermDef) -> Result<Option<Text>, Memory>
     ensures { IfOk result (λ compact. compact ≡ compact_iri iri.now term.now) }
 {
@@ -110,7 +111,8 @@ fn nearer(compact: Option<Text>, best: Option<Text>) -> Option<Text>
     }
 }
 
-// The best of the compact IRIs that the terms of one IRI make: in order of their names the first that may be used.
+// The best of the compact IRIs that the terms of one IRI make: in order of their names the first
+// that may be used.
 fn first_free(
     alloc: Global,
     table: &TermTable,
@@ -159,7 +161,9 @@ fn best_at(
 ) -> Result<Option<Text>, Memory>
     requires named { AreNamed table.now names.now }
     requires grouped { AreGrouped table.now prefixes.now.groups prefixes.now.lengths.items }
-    ensures { IfOk result (λ compact. compact ≡ best_of table.now iri.now has_value (entries_at prefixes.now.groups iri.now front)) }
+    ensures { IfOk result (λ compact.
+        compact
+        ≡ best_of table.now iri.now has_value (entries_at prefixes.now.groups iri.now front)) }
 {
     match group(prefixes, iri, front) {
         Some(ranks) => first_free(alloc, table, names, iri, has_value, front, ranks),
@@ -167,8 +171,9 @@ fn best_at(
     }
 }
 
-/// The shortest compact IRI that may be used, then the least. Its time grows with the number of lengths of prefixes' IRIs,
-/// with the logarithm of the terms, and with the compact IRIs that are terms and so may not be used.
+/// The shortest compact IRI that may be used, then the least. Its time grows with the number of
+/// lengths of prefixes' IRIs, with the logarithm of the terms, and with the compact IRIs that are
+/// terms and so may not be used.
 pub fn by_prefix(
     alloc: Global,
     table: &TermTable,

@@ -44,7 +44,8 @@ pub record IsPatch (body : List ℕ) (patch : Patch) : Type 0 where
   pub sized : patch.bytes ≡ length body
 
 -- a patch is committed or refused
-pub record IsCommitted (seat : ℕ) (body : List ℕ) (seen made : List Operation) (reply : Reply) : Type 0 where
+pub record IsCommitted (seat : ℕ) (body : List ℕ) (seen made : List Operation) (reply : Reply) :
+    Type 0 where
   pub patch : Patch
   pub reads : IsPatch body patch
   pub result : Result ℕ CommitErr
@@ -67,18 +68,27 @@ Commits seat body seen made reply =
     ⊎ IsBadPatch body made reply
     ⊎ ((made ≡ []) × (reply ≡ out_of_memory))
 
--- What is published is too old, and the newest version is asked for: it is framed where it is new enough.
-abbrev pub Refreshes : List ℕ → ℕ → List Operation → List Operation → Result Look Memory → Reply → Type 0
+-- What is published is too old, and the newest version is asked for: it is framed where it is new
+-- enough.
+abbrev pub Refreshes :
+    List ℕ → ℕ → List Operation → List Operation → Result Look Memory → Reply → Type 0
 Refreshes name need seen later (Ok (looked.Pending have needed)) reply =
-    ((need ≤ commits later) × ((framed : Result (Option FramedNow) Memory) × Frames later name framed × (reply ≡ framed_reply framed)))
+    ((need ≤ commits later)
+    × ((framed : Result (Option FramedNow) Memory) × Frames later name framed
+    × (reply ≡ framed_reply framed)))
     ⊎ ((commits later < need) × (reply ≡ look_reply (Ok (looked.Pending have needed))))
 Refreshes name need seen later (Ok (looked.Document doc version)) reply =
     (later ≡ seen) × (reply ≡ look_reply (Ok (looked.Document doc version)))
-Refreshes name need seen later (Ok looked.Unknown) reply = (later ≡ seen) × (reply ≡ look_reply (Ok looked.Unknown))
-Refreshes name need seen later (Err refused) reply = (later ≡ seen) × (reply ≡ look_reply (Err refused))
+Refreshes name need seen later (Ok looked.Unknown) reply =
+    (later ≡ seen) × (reply ≡ look_reply (Ok looked.Unknown))
+Refreshes name need seen later (Err refused) reply =
+    (later ≡ seen) × (reply ≡ look_reply (Err refused))
 
--- A request is answered by the history seen, and where the newest version was asked for, by a later one.
-abbrev pub IsAnswered : ℕ → List ℕ → List ℕ → ℕ → Asked → List Operation → List Operation → List Operation → Reply → Type 0
+-- A request is answered by the history seen, and where the newest version was asked for, by a later
+-- one.
+abbrev pub IsAnswered :
+    ℕ → List ℕ → List ℕ → ℕ → Asked → List Operation → List Operation → List Operation → Reply →
+    Type 0
 IsAnswered seat name body need (asked.Refused why) seen later made reply =
     (later ≡ seen) × (made ≡ []) × (reply ≡ refused_reply why)
 IsAnswered seat name body need asked.Put seen later made reply =
@@ -94,8 +104,10 @@ IsAnswered seat name body need asked.Get seen later made reply =
     × ((result : Result Look Memory) × Looks seen name need result × (reply ≡ look_reply result))
 IsAnswered seat name body need asked.GetNow seen later made reply =
     (made ≡ [])
-    × ((result : Result Look Memory) × Looks seen name need result × Refreshes name need seen later result reply)
-IsAnswered seat name body need asked.Commit seen later made reply = (later ≡ seen) × Commits seat body seen made reply
+    × ((result : Result Look Memory) × Looks seen name need result
+    × Refreshes name need seen later result reply)
+IsAnswered seat name body need asked.Commit seen later made reply =
+    (later ≡ seen) × Commits seat body seen made reply
 IsAnswered seat name body need asked.Version seen later made reply =
     (later ≡ seen) × (made ≡ []) × (reply ≡ version_reply (commits seen))
 IsAnswered seat name body need asked.Turn seen later made reply =

@@ -1,4 +1,5 @@
--- What a seat tells of boards: the texts whose boards are away, and those whose boards it has taken.
+-- What a seat tells of boards: the texts whose boards are away, and those whose boards it has
+-- taken.
 use Rattle.std.specs.Prelude.{◌≡◌, List, [], ℕ, Bool, true, Option, None}
 use Rattle.def_histories.specs.declared.operation.Operation.{Operation}
 use Rattle.def_turns.specs.Turns.{still_live}
@@ -20,6 +21,7 @@ abbrev pub StaysOut : Bool → List Operation → Boards → Boards → Type 0
 StaysOut alone history before after = alone ≡ true → after.away ≡ still_live history before.away
 
 -- a request that is no turn: no board is taken, and none goes or comes home
-pub record KeepsBoards (alone : Bool) (history : List Operation) (before after : Boards) : Type 0 where
+pub record KeepsBoards (alone : Bool) (history : List Operation) (before after : Boards) :
+    Type 0 where
   pub taken : after.taken ≡ before.taken
   pub out : StaysOut alone history before after

@@ -14,8 +14,8 @@ use Rattle.lf_session.specs.Answers.{IsAnswered}
 use Rattle.lf_session.specs.Boards.{Boards, StaysOut}
 use Rattle.lf_session.specs.Moving.{Moves, taken_by}
 
--- A request, the history by which it was answered and a later one, what it made behind the later one, the boards after it, and
--- the reply.
+-- A request, the history by which it was answered and a later one, what it made behind the later
+-- one, the boards after it, and the reply.
 pub record Exchange : Type 0 where
   pub sent : RequestHead
   pub head : Head
@@ -50,9 +50,10 @@ needed need head = told need head.seen
 abbrev pub need_of : ℕ → Exchange → ℕ
 need_of need x = told (needed need x.head) x.reply.version
 
--- The request was read whole, with a head within the limits, and was answered by the history before it with what others made. A
--- turn may come of the boards before it.
-pub record IsExchange (alone : Bool) (boards : Boards) (seat need : ℕ) (before : List Operation) (x : Exchange) : Type 0 where
+-- The request was read whole, with a head within the limits, and was answered by the history before
+-- it with what others made. A turn may come of the boards before it.
+pub record IsExchange (alone : Bool) (boards : Boards) (seat need : ℕ) (before : List Operation)
+    (x : Exchange) : Type 0 where
   pub is_head : IsRequestHead x.sent
   pub short : length (print_request x.sent) ≤ longest_head
   pub few : length x.sent.fields ≤ most_lines
@@ -61,7 +62,9 @@ pub record IsExchange (alone : Bool) (boards : Boards) (seat need : ℕ) (before
   pub came : IsExtended alone seat before x.seen
   pub went : IsExtended alone seat x.seen x.later
   pub legal : IsLegal is_frame (history_of x)
-  pub answered : IsAnswered seat (name_of x.sent.target) x.body (needed need x.head) (asked_by x.head) x.seen x.later x.made x.reply
+  pub answered :
+      IsAnswered seat (name_of x.sent.target) x.body (needed need x.head) (asked_by x.head) x.seen
+      x.later x.made x.reply
   pub moved : Moves alone boards x.boards seat (asked_by x.head) before (history_of x) x.reply
   pub out : StaysOut alone (history_of x) boards x.boards
 

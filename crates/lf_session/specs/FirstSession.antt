@@ -1,5 +1,6 @@
--- A worked session, byte for byte: a commit, a registration, a look at what isn't published, the same with the newest version
--- asked for, a turn, a look at what it published, and a turn for which no frame waits.
+-- A worked session, byte for byte: a commit, a registration, a look at what isn't published, the
+-- same with the newest version asked for, a turn, a look at what it published, and a turn for which
+-- no frame waits.
 use Rattle.std.specs.Prelude.{List, [], ◌∷◌, ◌++◌, ℕ, true, false, Some, None, Ok, codes}
 use Rattle.httparse.specs.Grammar.{RequestHead, Field, crlf}
 use Rattle.lf_rdf.specs.declared.term.Term.TheVariants.{Iri, Literal}
@@ -82,7 +83,15 @@ field name raw = record { name = name; raw = raw; end = crlf }
 
 abbrev pub request_head : List ℕ → List ℕ → List Field → RequestHead
 request_head name path fields =
-    record { blank = []; method = name; target = path; minor = 1; line_end = crlf; fields = field (codes "Host") (codes " x") ∷ fields; last = crlf }
+    record {
+      blank = [];
+      method = name;
+      target = path;
+      minor = 1;
+      line_end = crlf;
+      fields = field (codes "Host") (codes " x") ∷ fields;
+      last = crlf;
+    }
 
 abbrev pub head_with : Method → Target → ℕ → Head
 head_with asked path size = record {
@@ -100,7 +109,8 @@ head_with asked path size = record {
 
 abbrev pub commit_exchange : Exchange
 commit_exchange = record {
-  sent = request_head (codes "POST") (codes "/patch") (field (codes "Content-Length") (codes " 32") ∷ []);
+  sent = request_head (codes "POST") (codes "/patch")
+      (field (codes "Content-Length") (codes " 32") ∷ []);
   head = head_with method.Post target.PatchAt 32;
   body = codes "<http://e/a> <http://e/p> \"x\" .\n";
   seen = [];
@@ -112,7 +122,8 @@ commit_exchange = record {
 
 abbrev pub register_exchange : Exchange
 register_exchange = record {
-  sent = request_head (codes "PUT") (codes "/frames/a") (field (codes "Content-Length") (codes " 2") ∷ []);
+  sent = request_head (codes "PUT") (codes "/frames/a")
+      (field (codes "Content-Length") (codes " 2") ∷ []);
   head = head_with method.Put target.FrameAt 2;
   body = codes "{}";
   seen = one_commit;
@@ -139,7 +150,8 @@ framed_now = record { doc = document (codes "{}") (newest_dataset first_history)
 
 abbrev pub refresh_exchange : Exchange
 refresh_exchange = record {
-  sent = request_head (codes "GET") (codes "/frames/a") (field (codes "Ld-Refresh") (codes " now") ∷ []);
+  sent = request_head (codes "GET") (codes "/frames/a")
+      (field (codes "Ld-Refresh") (codes " now") ∷ []);
   head = record {
     method = method.Get;
     target = target.FrameAt;
@@ -205,9 +217,11 @@ exchanges_from = turn_exchange ∷ published_exchange ∷ idle_exchange ∷ []
 abbrev pub first_exchanges : List Exchange
 first_exchanges = exchanges_before ++ exchanges_from
 
--- It is a session of a seat that is alone, from an empty history on, where no board is away. The last look is one that shows
--- the published document by some handle.
+-- It is a session of a seat that is alone, from an empty history on, where no board is away. The
+-- last look is one that shows the published document by some handle.
 abbrev pub FirstSession : Type 0
 FirstSession =
     (look : Look) → Shows published_history (codes "a") 1 look
-    → IsSession true no_boards 0 first_input (Some []) [] published_history first_output ended.Clean first_exchanges nothing
+    →
+    IsSession true no_boards 0 first_input (Some []) [] published_history first_output
+    ended.Clean first_exchanges nothing

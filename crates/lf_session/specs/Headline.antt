@@ -20,8 +20,10 @@ use Rattle.lf_session.specs.Requests.{asked_by}
 use Rattle.lf_session.specs.Exchanges.{Exchange, need_of, needed, all_made}
 use Rattle.lf_session.specs.Session.{Last, nothing, request, refused, cut, faulted, no_room, no_buffers, IsSession}
 
--- the reply is the document of the frame and of one committed version, no older than the one that is needed
-pub record IsOfOneVersion (history : List Operation) (name : List ℕ) (need : ℕ) (reply : Reply) : Type 0 where
+-- the reply is the document of the frame and of one committed version, no older than the one that
+-- is needed
+pub record IsOfOneVersion (history : List Operation) (name : List ℕ) (need : ℕ) (reply : Reply) :
+    Type 0 where
   pub frame : Live
   pub version : ℕ
   pub is_live : live history name ≡ Some frame
@@ -30,7 +32,8 @@ pub record IsOfOneVersion (history : List Operation) (name : List ℕ) (need : �
   pub document : reply ≡ document_reply (document frame.text (dataset_at history version)) version
 
 -- what is published is older than needed, or nothing is, and the reply shows both
-pub record IsStillPending (history : List Operation) (name : List ℕ) (need : ℕ) (reply : Reply) : Type 0 where
+pub record IsStillPending (history : List Operation) (name : List ℕ) (need : ℕ) (reply : Reply) :
+    Type 0 where
   pub frame : Live
   pub is_live : live history name ≡ Some frame
   pub too_old : is_new_enough need frame.published ≡ false
@@ -47,10 +50,12 @@ asks_for_document asked.Commit = false
 asks_for_document asked.Version = false
 asks_for_document asked.Turn = false
 
--- A document, or the error or limit that stands in its place, is of one version: whatever is sent as JSON-LD, each 200 for a
--- frame's document, and each such reply that names a version. Pending comes where none is new enough.
+-- A document, or the error or limit that stands in its place, is of one version: whatever is sent
+-- as JSON-LD, each 200 for a frame's document, and each such reply that names a version. Pending
+-- comes where none is new enough.
 pub record IsTrusted (need : ℕ) (x : Exchange) : Type 0 where
-  pub document : x.reply.ld_json ≡ true → IsOfOneVersion x.later (name_of x.sent.target) need x.reply
+  pub document :
+      x.reply.ld_json ≡ true → IsOfOneVersion x.later (name_of x.sent.target) need x.reply
   pub framed : asks_for_document (asked_by x.head) ≡ true → x.reply.status ≡ 200
       → IsOfOneVersion x.later (name_of x.sent.target) need x.reply
   pub versioned : asks_for_document (asked_by x.head) ≡ true → is_some x.reply.version ≡ true
@@ -72,8 +77,8 @@ answered xs faulted = xs
 answered xs (no_room head) = xs
 answered xs no_buffers = xs
 
--- The documents are of one version each. The seat's own operations are those of its number that its requests made, in order,
--- each once; all else that they made is publications.
+-- The documents are of one version each. The seat's own operations are those of its number that its
+-- requests made, in order, each once; all else that they made is publications.
 pub record IsHeadline (seat : ℕ) (before after : List Operation) (xs : List Exchange) : Type 0 where
   pub trusted : AreTrusted 0 xs
   pub once : own seat after ≡ own seat before ++ own seat (all_made xs)
@@ -83,6 +88,8 @@ pub record IsHeadline (seat : ℕ) (before after : List Operation) (xs : List Ex
 -- so it is of each stream that is served
 abbrev pub SessionsHold : Type 0
 SessionsHold =
-    (alone : Bool) (boards : Boards) (seat : ℕ) (bytes written : List ℕ) (left : Option (List ℕ)) (before after : List Operation) (end : Ended)
+    (alone : Bool) (boards : Boards) (seat : ℕ) (bytes written : List ℕ) (left : Option (List ℕ))
+    (before after : List Operation) (end : Ended)
     (xs : List Exchange) (last : Last)
-    → IsSession alone boards seat bytes left before after written end xs last → IsHeadline seat before after (answered xs last)
+    → IsSession alone boards seat bytes left before after written end xs last →
+    IsHeadline seat before after (answered xs last)

@@ -13,18 +13,23 @@ use Rattle.lf_session.specs.Exchanges.{Exchange, history_of}
 use Rattle.lf_session.specs.Session.{Last, IsSession}
 use Rattle.lf_session.specs.Headline.{answered}
 
--- It is answered that no frame waits exactly where none does, unless no memory is found; then nothing is new. Otherwise the frame
--- that is next is published, at the newest version or at an older one that is newer than what is published.
+-- It is answered that no frame waits exactly where none does, unless no memory is found; then
+-- nothing is new. Otherwise the frame that is next is published, at the newest version or at an
+-- older one that is newer than what is published.
 abbrev pub IsLoneTurn : List Operation → Exchange → Type 0
 IsLoneTurn before x =
-    (result : Result Turned Memory) × LoneTurn before (history_of x) [] result × (x.reply ≡ turn_reply result)
+    (result : Result Turned Memory) × LoneTurn before (history_of x) [] result
+    × (x.reply ≡ turn_reply result)
 
 abbrev pub AreLoneTurns : List Operation → List Exchange → Type 0
 AreLoneTurns before [] = Unit {0}
-AreLoneTurns before (x ∷ xs) = (is_turn (asked_by x.head) ≡ true → IsLoneTurn before x) × AreLoneTurns (history_of x) xs
+AreLoneTurns before (x ∷ xs) =
+    (is_turn (asked_by x.head) ≡ true → IsLoneTurn before x) × AreLoneTurns (history_of x) xs
 
 abbrev pub LoneTurnsPublish : Type 0
 LoneTurnsPublish =
-    (taken : Option (List ℕ)) (seat : ℕ) (bytes written : List ℕ) (left : Option (List ℕ)) (before after : List Operation) (end : Ended)
+    (taken : Option (List ℕ)) (seat : ℕ) (bytes written : List ℕ) (left : Option (List ℕ))
+    (before after : List Operation) (end : Ended)
     (xs : List Exchange) (last : Last)
-    → IsSession true (boards_of [] taken) seat bytes left before after written end xs last → AreLoneTurns before (answered xs last)
+    → IsSession true (boards_of [] taken) seat bytes left before after written end xs last →
+    AreLoneTurns before (answered xs last)

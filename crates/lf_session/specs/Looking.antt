@@ -20,13 +20,15 @@ pub record IsPublished (history : List Operation) (frame : Live) (reply : Reply)
   pub published : frame.published ≡ Some version
   pub document : reply ≡ document_reply (document frame.text (dataset_at history version)) version
 
--- It is sent where it is new enough, unless no memory is found for a handle of it. Where it isn't, or where none is published, it is
--- told that it is still to come, and no memory is wanted.
+-- It is sent where it is new enough, unless no memory is found for a handle of it. Where it isn't,
+-- or where none is published, it is told that it is still to come, and no memory is wanted.
 abbrev pub IsShown : List Operation → ℕ → Reply → Option Live → Type 0
 IsShown history need reply None = reply ≡ unknown_frame
 IsShown history need reply (Some frame) =
-    ((is_new_enough need frame.published ≡ true) × (IsPublished history frame reply ⊎ (reply ≡ out_of_memory)))
-    ⊎ ((is_new_enough need frame.published ≡ false) × (reply ≡ plain 202 (pending_body frame.published need)))
+    ((is_new_enough need frame.published ≡ true)
+    × (IsPublished history frame reply ⊎ (reply ≡ out_of_memory)))
+    ⊎ ((is_new_enough need frame.published ≡ false)
+    × (reply ≡ plain 202 (pending_body frame.published need)))
 
 abbrev pub GetsAreAnswered : Type 0
 GetsAreAnswered =

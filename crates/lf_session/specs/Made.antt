@@ -15,13 +15,14 @@ use Rattle.lf_session.specs.Exchanges.{Exchange, IsExchange}
 abbrev pub IsMadeWhere : Bool → List Operation → Type 0
 IsMadeWhere told made = length made ≡ (if told then 1 else 0)
 
--- A registration that is new, a retirement of a live name, and a commit that is accepted make one operation. A turn makes the
--- publication that its reply tells. Any other request makes none.
+-- A registration that is new, a retirement of a live name, and a commit that is accepted make one
+-- operation. A turn makes the publication that its reply tells. Any other request makes none.
 abbrev pub TellsMade : Asked → List Operation → Reply → Type 0
 TellsMade asked.Put made reply = IsMadeWhere (nat_eq reply.status 201) made
 TellsMade asked.Delete made reply = IsMadeWhere (nat_eq reply.status 200) made
 TellsMade asked.Commit made reply = IsMadeWhere (nat_eq reply.status 200) made
-TellsMade asked.Turn made reply = (result : Result Turned Memory) × (reply ≡ turn_reply result) × (made ≡ given_entry result)
+TellsMade asked.Turn made reply =
+    (result : Result Turned Memory) × (reply ≡ turn_reply result) × (made ≡ given_entry result)
 TellsMade (asked.Refused why) made reply = made ≡ []
 TellsMade asked.Get made reply = made ≡ []
 TellsMade asked.GetNow made reply = made ≡ []

@@ -1,4 +1,5 @@
--- A `GET` that asks for the newest version is answered by a document, where the newest version is new enough.
+-- A `GET` that asks for the newest version is answered by a document, where the newest version is
+-- new enough.
 use Rattle.std.specs.Prelude.{◌≡◌, ◌≢◌, ◌⊎◌, ◌≤◌, List, ℕ, Bool, None}
 use Rattle.def_histories.specs.declared.operation.Operation.{Operation}
 use Rattle.def_histories.specs.History.{commits, live}

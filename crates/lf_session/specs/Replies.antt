@@ -34,11 +34,13 @@ pub record Reply : Type 0 where
 
 -- a JSON text that speaks of no version
 abbrev pub plain : ℕ → List ℕ → Reply
-plain status body = record { status = status; ld_json = false; allow = NoAllow; version = None; body = body }
+plain status body =
+    record { status = status; ld_json = false; allow = NoAllow; version = None; body = body }
 
 -- a JSON text that speaks of a version
 abbrev pub versioned : ℕ → ℕ → List ℕ → Reply
-versioned status version body = record { status = status; ld_json = false; allow = NoAllow; version = Some version; body = body }
+versioned status version body = record
+    { status = status; ld_json = false; allow = NoAllow; version = Some version; body = body }
 
 abbrev pub out_of_memory : Reply
 out_of_memory = plain 503 (error_body (codes "out of memory"))
@@ -46,7 +48,8 @@ out_of_memory = plain 503 (error_body (codes "out of memory"))
 abbrev pub unknown_frame : Reply
 unknown_frame = plain 404 (error_body (codes "unknown frame"))
 
--- a document of a version: its text, the error that the frame has there, or the limit that it passes
+-- a document of a version: its text, the error that the frame has there, or the limit that it
+-- passes
 abbrev pub document_reply : Doc → ℕ → Reply
 document_reply (doc.Bytes text) version =
     record { status = 200; ld_json = true; allow = NoAllow; version = Some version; body = text }
@@ -59,7 +62,8 @@ version_reply version = versioned 200 version (version_body version)
 abbrev pub commit_reply : Result ℕ CommitErr → Reply
 commit_reply (Ok version) = version_reply version
 commit_reply (Err (c.HistoryFull of have most)) = plain 507 (history_full_body of have most)
-commit_reply (Err (c.TooManyQuads have would)) = plain 413 (too_many_body (codes "quads") have would)
+commit_reply (Err (c.TooManyQuads have would)) =
+    plain 413 (too_many_body (codes "quads") have would)
 commit_reply (Err c.Memory) = out_of_memory
 
 -- a patch text with a bad line
@@ -74,7 +78,8 @@ register_reply name (Err (r.FrameTooLong size)) = plain 413 (frame_too_long_body
 register_reply name (Err r.NotJson) = plain 400 (error_body (codes "not JSON"))
 register_reply name (Err (r.Fractional path)) = plain 400 (fractional_body path)
 register_reply name (Err (r.Ld error)) = plain 422 (error_body (name_of error))
-register_reply name (Err (r.TooManyFrames have would)) = plain 413 (too_many_body (codes "frames") have would)
+register_reply name (Err (r.TooManyFrames have would)) =
+    plain 413 (too_many_body (codes "frames") have would)
 register_reply name (Err (r.HistoryFull of have most)) = plain 507 (history_full_body of have most)
 register_reply name (Err r.Memory) = out_of_memory
 

@@ -22,7 +22,10 @@ use Rattle.lf_session.specs.Requests.{refused_reply}
 
 -- the texts of replies, which compute here
 unfoldable pub replies_open : Unit {0}
-unfolding reason crlf status_text media_text allow_text version_line close_text length_text digits error_body frame_body version_body pending_body bad_line_body kind_name frame_too_long_body too_many_body counted_name history_full_body fractional_body limit_name limit_number limit_body idle_body published_body home_body superseded_body
+unfolding reason crlf status_text media_text allow_text version_line close_text length_text digits
+    error_body frame_body version_body pending_body bad_line_body kind_name frame_too_long_body
+    too_many_body counted_name history_full_body fractional_body limit_name limit_number limit_body
+    idle_body published_body home_body superseded_body
 replies_open = tt
 
 abbrev pub a : List ℕ
@@ -32,7 +35,8 @@ a = codes "a"
 abbrev pub open_bytes : Method → Reply → List ℕ
 open_bytes asked reply = reply_bytes asked false reply
 
--- ---- a first session: a commit, a registration, a look, the same with the newest version asked for, and a look at what was published
+-- ---- a first session: a commit, a registration, a look, the same with the newest version asked
+-- for, and a look at what was published
 
 pub committed :
     open_bytes method.Post (commit_reply (Ok 1))
@@ -53,7 +57,11 @@ unfolding replies_open
 pending = refl
 
 pub framed :
-    open_bytes method.Get (framed_reply (Ok (Some record { doc = doc.Bytes (codes "{\"@id\":\"http://e/a\",\"http://e/p\":\"x\"}"); version = 1 })))
+    open_bytes method.Get (framed_reply (Ok (Some record {
+      doc =
+          doc.Bytes (codes "{\"@id\":\"http://e/a\",\"http://e/p\":\"x\"}");
+      version = 1;
+    })))
     ≡ codes "HTTP/1.1 200 OK\r\nContent-Type: application/ld+json\r\nLd-Version: 1\r\nContent-Length: 37\r\n\r\n{\"@id\":\"http://e/a\",\"http://e/p\":\"x\"}"
 unfolding replies_open
 framed = refl
@@ -107,16 +115,20 @@ pub frames :
     (register_reply a (Ok false) ≡ plain 200 (codes "{\"frame\":\"a\"}"))
     × (register_reply a (Err r.BadName) ≡ plain 400 (codes "{\"error\":\"bad name\"}"))
     × (register_reply a (Err r.NotJson) ≡ plain 400 (codes "{\"error\":\"not JSON\"}"))
-    × (register_reply a (Err (r.Ld InvalidFrame)) ≡ plain 422 (codes "{\"error\":\"invalid frame\"}"))
-    × (register_reply a (Err (r.FrameTooLong 65537)) ≡ plain 413 (codes "{\"error\":\"frame too long\",\"length\":65537}"))
-    × (register_reply a (Err (r.TooManyFrames 16 17)) ≡ plain 413 (codes "{\"error\":\"too many frames\",\"have\":16,\"would\":17}"))
+    × (register_reply a (Err (r.Ld InvalidFrame))
+    ≡ plain 422 (codes "{\"error\":\"invalid frame\"}"))
+    × (register_reply a (Err (r.FrameTooLong 65537))
+    ≡ plain 413 (codes "{\"error\":\"frame too long\",\"length\":65537}"))
+    × (register_reply a (Err (r.TooManyFrames 16 17))
+    ≡ plain 413 (codes "{\"error\":\"too many frames\",\"have\":16,\"would\":17}"))
     × (register_reply a (Err (r.HistoryFull counted.Registrations 65536 65536))
     ≡ plain 507 (codes "{\"error\":\"history full\",\"have\":65536,\"limit\":65536,\"of\":\"registrations\"}"))
 unfolding replies_open
 frames = (refl, refl, refl, refl, refl, refl, refl)
 
 -- a path is escaped
-pub fractional : fractional_body (codes "/a\"") ≡ codes "{\"error\":\"fractional number\",\"path\":\"/a\\\"\"}"
+pub fractional :
+    fractional_body (codes "/a\"") ≡ codes "{\"error\":\"fractional number\",\"path\":\"/a\\\"\"}"
 unfolding replies_open
 fractional = refl
 
@@ -147,10 +159,14 @@ unfolding replies_open
 confused = refl
 
 pub limit_bodies :
-    (limit_body limits.TreeItems ≡ codes "{\"error\":\"document limit\",\"limit\":\"tree items\",\"number\":65536}")
-    × (limit_body limits.Depth ≡ codes "{\"error\":\"document limit\",\"limit\":\"depth\",\"number\":256}")
-    × (limit_body limits.DocumentItems ≡ codes "{\"error\":\"document limit\",\"limit\":\"document items\",\"number\":262144}")
-    × (limit_body limits.DocumentBytes ≡ codes "{\"error\":\"document limit\",\"limit\":\"document bytes\",\"number\":33554432}")
+    (limit_body limits.TreeItems
+    ≡ codes "{\"error\":\"document limit\",\"limit\":\"tree items\",\"number\":65536}")
+    × (limit_body limits.Depth
+    ≡ codes "{\"error\":\"document limit\",\"limit\":\"depth\",\"number\":256}")
+    × (limit_body limits.DocumentItems
+    ≡ codes "{\"error\":\"document limit\",\"limit\":\"document items\",\"number\":262144}")
+    × (limit_body limits.DocumentBytes
+    ≡ codes "{\"error\":\"document limit\",\"limit\":\"document bytes\",\"number\":33554432}")
 unfolding replies_open
 limit_bodies = (refl, refl, refl, refl)
 
@@ -158,8 +174,10 @@ limit_bodies = (refl, refl, refl, refl)
 
 pub turns :
     (turn_reply (Ok turned.Idle) ≡ plain 200 (codes "{\"turn\":\"idle\"}"))
-    × (turn_reply (Ok (turned.Published a 1)) ≡ plain 200 (codes "{\"frame\":\"a\",\"turn\":\"published\",\"version\":1}"))
-    × (turn_reply (Ok (turned.Home a (Some 1))) ≡ plain 200 (codes "{\"frame\":\"a\",\"turn\":\"home\"}"))
+    × (turn_reply (Ok (turned.Published a 1))
+    ≡ plain 200 (codes "{\"frame\":\"a\",\"turn\":\"published\",\"version\":1}"))
+    × (turn_reply (Ok (turned.Home a (Some 1)))
+    ≡ plain 200 (codes "{\"frame\":\"a\",\"turn\":\"home\"}"))
     × (turn_reply (Ok (turned.Superseded a 1 (Some 2)))
     ≡ plain 200 (codes "{\"frame\":\"a\",\"now\":2,\"then\":1,\"turn\":\"superseded\"}"))
     × (turn_reply (Ok (turned.Superseded a 1 None))

@@ -1,4 +1,5 @@
--- What an accepted head asks for, or why it is refused. Refusals stand in the order in which they are tried.
+-- What an accepted head asks for, or why it is refused. Refusals stand in the order in which they
+-- are tried.
 use Rattle.std.specs.Prelude.{Bool, false, not, if◌then◌else◌, None, codes}
 use Rattle.lf_http.specs.declared.head.Head.{Head}
 use Rattle.lf_http.specs.declared.head.Method.{Method}
@@ -13,8 +14,8 @@ use Rattle.lf_session.specs.declared.request.Asked.TheVariants as asked
 use Rattle.lf_session.specs.Bodies.{error_body}
 use Rattle.lf_session.specs.Replies.{Reply, plain}
 
--- what the method asks for at the target (RFC 9110, section 10.2.1, for the methods that it has); `now` asks for the newest
--- version
+-- what the method asks for at the target (RFC 9110, section 10.2.1, for the methods that it has);
+-- `now` asks for the newest version
 abbrev pub at_frame : Method → Bool → Asked
 at_frame method.Get now = if now then asked.GetNow else asked.Get
 at_frame method.Put now = asked.Put
@@ -83,6 +84,12 @@ abbrev pub refused_reply : Refusal → Reply
 refused_reply refused.ContentEncoding = plain 415 (error_body (codes "content encoding"))
 refused_reply refused.NoSuchPath = plain 404 (error_body (codes "no such path"))
 refused_reply (refused.MethodNotAllowed allow) =
-    record { status = 405; ld_json = false; allow = allow; version = None; body = error_body (codes "method not allowed") }
+    record {
+      status = 405;
+      ld_json = false;
+      allow = allow;
+      version = None;
+      body = error_body (codes "method not allowed");
+    }
 refused_reply refused.BadSeen = plain 400 (error_body (codes "bad Ld-Seen"))
 refused_reply refused.BadRefresh = plain 400 (error_body (codes "bad Ld-Refresh"))

@@ -32,10 +32,12 @@ Reads told bytes = told.left_before ≡ prepended bytes told.left_after
 abbrev pub Writes : Told → List ℕ → Type 0
 Writes told bytes = told.held_after ≡ appended told.held_before bytes
 
--- A whole stream was served, from a history to another. The seat's own operations are those before and what its requests made
--- with its number; a publication that they made has none. The texts that it has taken grew by at most one for each turn that
--- didn't answer that no frame waits, and by no other request.
-pub record IsServed (alone : Bool) (boards boards_after : Boards) (seat : ℕ) (before after : List Operation) (told : Told) (ended : Ended) : Type 0 where
+-- A whole stream was served, from a history to another. The seat's own operations are those before
+-- and what its requests made with its number; a publication that they made has none. The texts that
+-- it has taken grew by at most one for each turn that didn't answer that no frame waits, and by no
+-- other request.
+pub record IsServed (alone : Bool) (boards boards_after : Boards) (seat : ℕ)
+    (before after : List Operation) (told : Told) (ended : Ended) : Type 0 where
   pub bytes : List ℕ
   pub written : List ℕ
   pub xs : List Exchange
@@ -47,12 +49,15 @@ pub record IsServed (alone : Bool) (boards boards_after : Boards) (seat : ℕ) (
   pub moved : boards_after ≡ last_boards boards (answered xs last)
   pub took : GrewBy (turns_in (answered xs last)) boards.taken boards_after.taken
 
--- A request was answered, and the stream goes on. Bytes that were pending stood before those of the source.
-pub record GoesOn (alone : Bool) (boards boards_after : Boards) (seat need need_after : ℕ) (before after : List Operation) (told : Told) (pending pending_after : List ℕ) : Type 0 where
+-- A request was answered, and the stream goes on. Bytes that were pending stood before those of the
+-- source.
+pub record GoesOn (alone : Bool) (boards boards_after : Boards) (seat need need_after : ℕ)
+    (before after : List Operation) (told : Told) (pending pending_after : List ℕ) : Type 0 where
   pub x : Exchange
   pub is : IsExchange alone boards seat need before x
   pub stays : x.head.close ≡ false
-  pub reads : prepended pending told.left_before ≡ prepended (message_of x ++ pending_after) told.left_after
+  pub reads :
+      prepended pending told.left_before ≡ prepended (message_of x ++ pending_after) told.left_after
   pub writes : Writes told (answer_of x)
   pub needs : need_after ≡ need_of need x
   pub follows : after ≡ history_of x
@@ -69,7 +74,8 @@ boards_behind boards (no_room head) = boards
 boards_behind boards no_buffers = boards
 
 -- The stream ended.
-pub record Ends (alone : Bool) (boards boards_after : Boards) (seat need : ℕ) (before after : List Operation) (told : Told) (pending : List ℕ) (ended : Ended) : Type 0 where
+pub record Ends (alone : Bool) (boards boards_after : Boards) (seat need : ℕ)
+    (before after : List Operation) (told : Told) (pending : List ℕ) (ended : Ended) : Type 0 where
   pub last : Last
   pub rest : List ℕ
   pub sent : List ℕ
@@ -81,10 +87,13 @@ pub record Ends (alone : Bool) (boards boards_after : Boards) (seat need : ℕ) 
   pub read_some : last ≡ no_buffers → ⊥
 
 -- the one or the other
-abbrev pub Serves : Bool → Boards → Boards → ℕ → ℕ → ℕ → List Operation → List Operation → Told → List ℕ → List ℕ → Option Ended → Type 0
+abbrev pub Serves :
+    Bool → Boards → Boards → ℕ → ℕ → ℕ → List Operation → List Operation → Told → List ℕ → List ℕ →
+    Option Ended → Type 0
 Serves alone boards boards_after seat need need_after before after told pending pending_after None =
     GoesOn alone boards boards_after seat need need_after before after told pending pending_after
-Serves alone boards boards_after seat need need_after before after told pending pending_after (Some ended) =
+Serves alone boards boards_after seat need need_after before after told pending pending_after
+    (Some ended) =
     Ends alone boards boards_after seat need before after told pending ended
 
 -- what stands last where a head was refused, and its reply, if there is one
@@ -105,16 +114,21 @@ abbrev pub last_of : HeadErr → Last
 last_of e = last_for e (refusal e)
 
 -- the sink took what was due for what stands last, or failed
-pub record SendsLast (last : Last) (held_before held_after : Option (List ℕ)) (ended : Ended) : Type 0 where
+pub record SendsLast (last : Last) (held_before held_after : Option (List ℕ)) (ended : Ended) :
+    Type 0 where
   pub sent : List ℕ
   pub writes : held_after ≡ appended held_before sent
   pub ends : EndsBy last sent ended
 
--- the bytes of a reply were written and the stream goes on, or it ends because it was asked to close or a write failed
+-- the bytes of a reply were written and the stream goes on, or it ends because it was asked to
+-- close or a write failed
 abbrev pub SendsReply : Bool → List ℕ → Option (List ℕ) → Option (List ℕ) → Option Ended → Type 0
-SendsReply close bytes held_before held_after None = (close ≡ false) × (held_after ≡ appended held_before bytes)
-SendsReply close bytes held_before held_after (Some ended.Asked) = (close ≡ true) × (held_after ≡ appended held_before bytes)
-SendsReply close bytes held_before held_after (Some ended.WriteFault) = AddsPart held_before held_after bytes
+SendsReply close bytes held_before held_after None =
+    (close ≡ false) × (held_after ≡ appended held_before bytes)
+SendsReply close bytes held_before held_after (Some ended.Asked) =
+    (close ≡ true) × (held_after ≡ appended held_before bytes)
+SendsReply close bytes held_before held_after (Some ended.WriteFault) =
+    AddsPart held_before held_after bytes
 SendsReply close bytes held_before held_after (Some ended.Clean) = ⊥
 SendsReply close bytes held_before held_after (Some (ended.Bad status)) = ⊥
 SendsReply close bytes held_before held_after (Some ended.CutShort) = ⊥
@@ -122,14 +136,16 @@ SendsReply close bytes held_before held_after (Some ended.ReadFault) = ⊥
 SendsReply close bytes held_before held_after (Some ended.Memory) = ⊥
 
 -- An accepted request with its whole body was answered.
-pub record Replies (alone : Bool) (boards boards_after : Boards) (seat need need_after : ℕ) (head : Head) (name body : List ℕ) (before after : List Operation)
+pub record Replies (alone : Bool) (boards boards_after : Boards) (seat need need_after : ℕ)
+    (head : Head) (name body : List ℕ) (before after : List Operation)
     (held_before held_after : Option (List ℕ)) (result : Option Ended) : Type 0 where
   pub reply : Reply
   pub step : IsStep alone seat (needed need head) name body (asked_by head) before after reply
   pub moved : Moves alone boards boards_after seat (asked_by head) before after reply
   pub out : StaysOut alone after boards boards_after
   pub needs : need_after ≡ told_by (needed need head) reply.version
-  pub sends : SendsReply head.close (reply_bytes head.method head.close reply) held_before held_after result
+  pub sends :
+      SendsReply head.close (reply_bytes head.method head.close reply) held_before held_after result
 
 -- the counts of faults after a request was served or the stream ended
 abbrev pub reads_after : ℕ → Option Ended → ℕ

@@ -11,8 +11,10 @@ use Rattle.lf_session.specs.declared.request.Asked.{Asked}
 use Rattle.lf_session.specs.Replies.{Reply}
 use Rattle.lf_session.specs.Answers.{IsAnswered}
 
--- The desk's history went on from one to another, which is legal, and the request was answered by what stood between.
-pub record IsStep (alone : Bool) (seat need : ℕ) (name body : List ℕ) (asked : Asked) (before after : List Operation) (reply : Reply) : Type 0 where
+-- The desk's history went on from one to another, which is legal, and the request was answered by
+-- what stood between.
+pub record IsStep (alone : Bool) (seat need : ℕ) (name body : List ℕ) (asked : Asked)
+    (before after : List Operation) (reply : Reply) : Type 0 where
   pub seen : List Operation
   pub later : List Operation
   pub made : List Operation

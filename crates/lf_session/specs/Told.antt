@@ -15,8 +15,8 @@ use Rattle.lf_session.specs.Session.{Last, IsSession}
 use Rattle.lf_session.specs.Headline.{answered}
 use Rattle.lf_session.specs.Whole.{Message, message_bytes, all_bytes, message_in, IsWholeMessage}
 
--- What stands behind whole messages: nothing, a message that is cut and the bytes that it lacks, a head that is cut, be it
--- accepted or not, or a refused head.
+-- What stands behind whole messages: nothing, a message that is cut and the bytes that it lacks, a
+-- head that is cut, be it accepted or not, or a refused head.
 pub data Tail : Type 0 where
   no_tail : Tail
   cut_message : Message → List ℕ → Tail
@@ -32,7 +32,8 @@ IsTail (cut_head h lacking) part =
     IsRequestHead h × (length (print_request h) ≤ longest_head) × (length h.fields ≤ most_lines)
     × (part ≡ [] → ⊥) × (lacking ≡ [] → ⊥) × (part ++ lacking ≡ print_request h)
 IsTail (refused_head h e) part =
-    (rest : List ℕ) × ReadsRequest part h rest × (length (print_request h) ≤ longest_head) × (length h.fields ≤ most_lines)
+    (rest : List ℕ) × ReadsRequest part h rest × (length (print_request h) ≤ longest_head)
+    × (length h.fields ≤ most_lines)
     × (judged (request_of h) ≡ Err e)
 
 -- the end that each tail has
@@ -52,14 +53,16 @@ abbrev pub IsBadTail : ℕ → Tail → Type 0
 IsBadTail status no_tail = ⊥
 IsBadTail status (cut_message m lacking) = ⊥
 IsBadTail status (cut_head h lacking) = ⊥
-IsBadTail status (refused_head h e) = (reply : Reply) × (refusal e ≡ Some reply) × (status ≡ reply.status)
+IsBadTail status (refused_head h e) =
+    (reply : Reply) × (refusal e ≡ Some reply) × (status ≡ reply.status)
 
--- How the stream may end: by its tail, where all messages were answered, or after a message that asks to close. Otherwise a
--- read or a write failed, or no memory was found.
+-- How the stream may end: by its tail, where all messages were answered, or after a message that
+-- asks to close. Otherwise a read or a write failed, or no memory was found.
 abbrev pub MayEndBy : Tail → List Message → List Message → Ended → Type 0
 MayEndBy tail before behind ended.Clean = (behind ≡ []) × IsCleanTail tail
 MayEndBy tail before behind ended.Asked =
-    (front : List Message) × (last : Message) × (before ≡ front ++ last ∷ []) × (last.head.close ≡ true)
+    (front : List Message) × (last : Message) × (before ≡ front ++ last ∷ [])
+    × (last.head.close ≡ true)
 MayEndBy tail before behind (ended.Bad status) = (behind ≡ []) × IsBadTail status tail
 MayEndBy tail before behind ended.CutShort = (behind ≡ []) × IsCutTail tail
 MayEndBy tail before behind ended.ReadFault = Unit {0}
@@ -67,14 +70,16 @@ MayEndBy tail before behind ended.WriteFault = Unit {0}
 MayEndBy tail before behind ended.Memory = Unit {0}
 
 -- the messages that were answered are the first ones, in order
-pub record AreAnswered (tail : Tail) (ms : List Message) (xs : List Exchange) (end : Ended) : Type 0 where
+pub record AreAnswered (tail : Tail) (ms : List Message) (xs : List Exchange) (end : Ended) :
+    Type 0 where
   pub behind : List Message
   pub first : ms ≡ map message_in xs ++ behind
   pub ends : MayEndBy tail (map message_in xs) behind end
 
 abbrev pub StreamsEndAsTold : Type 0
 StreamsEndAsTold =
-    (alone : Bool) (boards : Boards) (seat : ℕ) (bytes written : List ℕ) (left : Option (List ℕ)) (before after : List Operation) (end : Ended)
+    (alone : Bool) (boards : Boards) (seat : ℕ) (bytes written : List ℕ) (left : Option (List ℕ))
+    (before after : List Operation) (end : Ended)
     (xs : List Exchange) (last : Last) (ms : List Message) (tail : Tail) (part : List ℕ)
     → All IsWholeMessage ms → IsTail tail part → Some (all_bytes ms ++ part) ≡ prepended bytes left
     → IsSession alone boards seat bytes left before after written end xs last

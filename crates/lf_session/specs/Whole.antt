@@ -1,4 +1,5 @@
--- A stream of whole messages is answered to its end, or until it asks to close, where no read or write fails and memory is found.
+-- A stream of whole messages is answered to its end, or until it asks to close, where no read or
+-- write fails and memory is found.
 use Rattle.std.specs.Prelude.{◌≡◌, ◌≤◌, List, [], ◌∷◌, ◌++◌, ℕ, Bool, true, length, map, All, Option, Some, Ok}
 use Rattle.httparse.specs.Grammar.{RequestHead, IsRequestHead, print_request}
 use Rattle.lf_io.specs.Bytes.{prepended}
@@ -38,12 +39,14 @@ pub record IsWholeMessage (m : Message) : Type 0 where
   pub accepted : judged (request_of m.sent) ≡ Ok m.head
   pub whole : length m.body ≡ m.head.length
 
--- How the stream may end. All messages were answered, or all up to one that asks to close. Otherwise a read or a write
--- failed, or no memory was found: no head is refused, and no message is cut.
+-- How the stream may end. All messages were answered, or all up to one that asks to close.
+-- Otherwise a read or a write failed, or no memory was found: no head is refused, and no message is
+-- cut.
 abbrev pub MayEnd : List Message → List Message → Ended → Type 0
 MayEnd before behind ended.Clean = behind ≡ []
 MayEnd before behind ended.Asked =
-    (front : List Message) × (last : Message) × (before ≡ front ++ last ∷ []) × (last.head.close ≡ true)
+    (front : List Message) × (last : Message) × (before ≡ front ++ last ∷ [])
+    × (last.head.close ≡ true)
 MayEnd before behind (ended.Bad status) = ⊥
 MayEnd before behind ended.CutShort = ⊥
 MayEnd before behind ended.ReadFault = Unit {0}
@@ -58,7 +61,8 @@ pub record AreServed (ms : List Message) (xs : List Exchange) (end : Ended) : Ty
 
 abbrev pub WholeStreamsAreServed : Type 0
 WholeStreamsAreServed =
-    (alone : Bool) (boards : Boards) (seat : ℕ) (bytes written : List ℕ) (left : Option (List ℕ)) (before after : List Operation) (end : Ended)
+    (alone : Bool) (boards : Boards) (seat : ℕ) (bytes written : List ℕ) (left : Option (List ℕ))
+    (before after : List Operation) (end : Ended)
     (xs : List Exchange) (last : Last) (ms : List Message)
     → All IsWholeMessage ms → Some (all_bytes ms) ≡ prepended bytes left
     → IsSession alone boards seat bytes left before after written end xs last

@@ -1,4 +1,5 @@
--- Worked ends of streams, byte for byte: refused heads, a message that is cut, a request that asks to close, and a failed write.
+-- Worked ends of streams, byte for byte: refused heads, a message that is cut, a request that asks
+-- to close, and a failed write.
 use Rattle.std.specs.Prelude.{List, [], ◌∷◌, ◌++◌, ℕ, true, false, Some, None, codes}
 use Rattle.lf_http.specs.declared.head.HeadErr.{HeadErr}
 use Rattle.lf_http.specs.declared.head.HeadErr.TheVariants as h
@@ -45,7 +46,8 @@ abbrev pub closing_get : Exchange
 closing_get = closing (codes "GET") method.Get (version_reply 0)
 
 abbrev pub closing_patch : Exchange
-closing_patch = closing (codes "PATCH") method.OtherMethod (refused_reply (why.MethodNotAllowed allow.Get))
+closing_patch =
+    closing (codes "PATCH") method.OtherMethod (refused_reply (why.MethodNotAllowed allow.Get))
 
 abbrev pub refused_with : HeadErr → ℕ → List ℕ → Last
 refused_with e status text = session.refused e (plain status (error_body text))
@@ -60,15 +62,19 @@ pub record WorkedEnds : Type 0 where
       (codes "HTTP/1.1 411 Length Required\r\nContent-Type: application/json\r\nConnection: close\r\nContent-Length: 27\r\n\r\n{\"error\":\"length required\"}")
       (ended.Bad 411) [] (refused_with h.LengthNeeded 411 (codes "length required"))
   pub cut_body :
-      IsSession true no_boards 0 (codes "POST /patch HTTP/1.1\r\nHost: x\r\nContent-Length: 32\r\n\r\n<http://e/a>") (Some []) [] [] [] ended.CutShort [] session.cut
+      IsSession true no_boards 0
+      (codes "POST /patch HTTP/1.1\r\nHost: x\r\nContent-Length: 32\r\n\r\n<http://e/a>")
+      (Some []) [] [] [] ended.CutShort [] session.cut
   -- the message behind it isn't answered
   pub closed :
       IsSession true no_boards 0
-      (codes "PATCH /version HTTP/1.1\r\nHost: x\r\nConnection: close\r\n\r\n" ++ codes "GET /version HTTP/1.1\r\nHost: x\r\n\r\n")
+      (codes "PATCH /version HTTP/1.1\r\nHost: x\r\nConnection: close\r\n\r\n"
+      ++ codes "GET /version HTTP/1.1\r\nHost: x\r\n\r\n")
       (Some []) [] []
       (codes "HTTP/1.1 405 Method Not Allowed\r\nContent-Type: application/json\r\nAllow: GET\r\nConnection: close\r\nContent-Length: 30\r\n\r\n{\"error\":\"method not allowed\"}")
       ended.Asked [] (session.request closing_patch)
   -- ten bytes were taken
   pub write_failed :
-      IsSession true no_boards 0 (codes "GET /version HTTP/1.1\r\nHost: x\r\nConnection: close\r\n\r\n") (Some []) [] []
+      IsSession true no_boards 0
+      (codes "GET /version HTTP/1.1\r\nHost: x\r\nConnection: close\r\n\r\n") (Some []) [] []
       (codes "HTTP/1.1 2") ended.WriteFault [] (session.request closing_get)

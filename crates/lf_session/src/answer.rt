@@ -30,7 +30,9 @@ use std::alloc::Global;
 fn answer_version<D: Desk>(desk: &mut D) -> Reply
     ensures step { (need : ℕ) (name body : List ℕ) → IsStep (D.alone desk.old) (D.seat desk.old) need name body asks.Version
         (D.history desk.old) (D.history desk.new) (shown result) }
-    ensures keeps { KeepsBoards (D.alone desk.old) (D.history desk.new) (boards_of (D.away desk.old) (D.taken desk.old)) (boards_of (D.away desk.new) (D.taken desk.new)) }
+    ensures keeps { KeepsBoards (D.alone desk.old) (D.history desk.new)
+        (boards_of (D.away desk.old) (D.taken desk.old))
+        (boards_of (D.away desk.new) (D.taken desk.new)) }
     ensures same_seat { D.seat desk.new ≡ D.seat desk.old }
     ensures same_alone { D.alone desk.new ≡ D.alone desk.old }
     ensures named { IsTrue (is_named result.status) }
@@ -41,7 +43,9 @@ fn answer_version<D: Desk>(desk: &mut D) -> Reply
 fn answer_get<D: Desk>(alloc: Global, desk: &mut D, name: &str, need: u64) -> Reply
     ensures step { (body : List ℕ) → IsStep (D.alone desk.old) (D.seat desk.old) need name.now body asks.Get
         (D.history desk.old) (D.history desk.new) (shown result) }
-    ensures keeps { KeepsBoards (D.alone desk.old) (D.history desk.new) (boards_of (D.away desk.old) (D.taken desk.old)) (boards_of (D.away desk.new) (D.taken desk.new)) }
+    ensures keeps { KeepsBoards (D.alone desk.old) (D.history desk.new)
+        (boards_of (D.away desk.old) (D.taken desk.old))
+        (boards_of (D.away desk.new) (D.taken desk.new)) }
     ensures same_seat { D.seat desk.new ≡ D.seat desk.old }
     ensures same_alone { D.alone desk.new ≡ D.alone desk.old }
     ensures named { IsTrue (is_named result.status) }
@@ -54,7 +58,9 @@ fn register<D: Desk>(alloc: Global, desk: &mut D, name: &str, text: &str) -> Rep
     requires { IsUtf8 text.now }
     ensures step { (need : ℕ) → IsStep (D.alone desk.old) (D.seat desk.old) need name.now text.now asks.Put
         (D.history desk.old) (D.history desk.new) (shown result) }
-    ensures keeps { KeepsBoards (D.alone desk.old) (D.history desk.new) (boards_of (D.away desk.old) (D.taken desk.old)) (boards_of (D.away desk.new) (D.taken desk.new)) }
+    ensures keeps { KeepsBoards (D.alone desk.old) (D.history desk.new)
+        (boards_of (D.away desk.old) (D.taken desk.old))
+        (boards_of (D.away desk.new) (D.taken desk.new)) }
     ensures same_seat { D.seat desk.new ≡ D.seat desk.old }
     ensures same_alone { D.alone desk.new ≡ D.alone desk.old }
     ensures named { IsTrue (is_named result.status) }
@@ -68,7 +74,9 @@ fn register<D: Desk>(alloc: Global, desk: &mut D, name: &str, text: &str) -> Rep
 fn answer_put<D: Desk>(alloc: Global, desk: &mut D, name: &str, body: &[u8]) -> Reply
     ensures step { (need : ℕ) → IsStep (D.alone desk.old) (D.seat desk.old) need name.now body.now asks.Put
         (D.history desk.old) (D.history desk.new) (shown result) }
-    ensures keeps { KeepsBoards (D.alone desk.old) (D.history desk.new) (boards_of (D.away desk.old) (D.taken desk.old)) (boards_of (D.away desk.new) (D.taken desk.new)) }
+    ensures keeps { KeepsBoards (D.alone desk.old) (D.history desk.new)
+        (boards_of (D.away desk.old) (D.taken desk.old))
+        (boards_of (D.away desk.new) (D.taken desk.new)) }
     ensures same_seat { D.seat desk.new ≡ D.seat desk.old }
     ensures same_alone { D.alone desk.new ≡ D.alone desk.old }
     ensures named { IsTrue (is_named result.status) }
@@ -84,7 +92,9 @@ fn retire<D: Desk>(alloc: Global, desk: &mut D, name: &str, text: Text) -> Reply
     requires { text ≡ frame_body name.now }
     ensures step { (need : ℕ) (body : List ℕ) → IsStep (D.alone desk.old) (D.seat desk.old) need name.now body asks.Delete
         (D.history desk.old) (D.history desk.new) (shown result) }
-    ensures keeps { KeepsBoards (D.alone desk.old) (D.history desk.new) (boards_of (D.away desk.old) (D.taken desk.old)) (boards_of (D.away desk.new) (D.taken desk.new)) }
+    ensures keeps { KeepsBoards (D.alone desk.old) (D.history desk.new)
+        (boards_of (D.away desk.old) (D.taken desk.old))
+        (boards_of (D.away desk.new) (D.taken desk.new)) }
     ensures same_seat { D.seat desk.new ≡ D.seat desk.old }
     ensures same_alone { D.alone desk.new ≡ D.alone desk.old }
     ensures named { IsTrue (is_named result.status) }
@@ -99,7 +109,9 @@ fn retire<D: Desk>(alloc: Global, desk: &mut D, name: &str, text: Text) -> Reply
 fn answer_delete<D: Desk>(alloc: Global, desk: &mut D, name: &str) -> Reply
     ensures step { (need : ℕ) (body : List ℕ) → IsStep (D.alone desk.old) (D.seat desk.old) need name.now body asks.Delete
         (D.history desk.old) (D.history desk.new) (shown result) }
-    ensures keeps { KeepsBoards (D.alone desk.old) (D.history desk.new) (boards_of (D.away desk.old) (D.taken desk.old)) (boards_of (D.away desk.new) (D.taken desk.new)) }
+    ensures keeps { KeepsBoards (D.alone desk.old) (D.history desk.new)
+        (boards_of (D.away desk.old) (D.taken desk.old))
+        (boards_of (D.away desk.new) (D.taken desk.new)) }
     ensures same_seat { D.seat desk.new ≡ D.seat desk.old }
     ensures same_alone { D.alone desk.new ≡ D.alone desk.old }
     ensures named { IsTrue (is_named result.status) }
@@ -121,7 +133,9 @@ fn refresh<D: Desk>(
 ) -> Reply
     ensures call { IsCall (D.alone desk.old) (D.seat desk.old) (D.history desk.old) (D.history desk.new) []
         (λ later. Refreshes name.now need [] later (Ok (Pending have needed)) (shown result)) }
-    ensures keeps { KeepsBoards (D.alone desk.old) (D.history desk.new) (boards_of (D.away desk.old) (D.taken desk.old)) (boards_of (D.away desk.new) (D.taken desk.new)) }
+    ensures keeps { KeepsBoards (D.alone desk.old) (D.history desk.new)
+        (boards_of (D.away desk.old) (D.taken desk.old))
+        (boards_of (D.away desk.new) (D.taken desk.new)) }
     ensures same_seat { D.seat desk.new ≡ D.seat desk.old }
     ensures same_alone { D.alone desk.new ≡ D.alone desk.old }
     ensures named { IsTrue (is_named result.status) }
@@ -136,7 +150,9 @@ fn refresh<D: Desk>(
 fn answer_now<D: Desk>(alloc: Global, desk: &mut D, name: &str, need: u64) -> Reply
     ensures step { (body : List ℕ) → IsStep (D.alone desk.old) (D.seat desk.old) need name.now body asks.GetNow
         (D.history desk.old) (D.history desk.new) (shown result) }
-    ensures keeps { KeepsBoards (D.alone desk.old) (D.history desk.new) (boards_of (D.away desk.old) (D.taken desk.old)) (boards_of (D.away desk.new) (D.taken desk.new)) }
+    ensures keeps { KeepsBoards (D.alone desk.old) (D.history desk.new)
+        (boards_of (D.away desk.old) (D.taken desk.old))
+        (boards_of (D.away desk.new) (D.taken desk.new)) }
     ensures same_seat { D.seat desk.new ≡ D.seat desk.old }
     ensures same_alone { D.alone desk.new ≡ D.alone desk.old }
     ensures named { IsTrue (is_named result.status) }
@@ -153,7 +169,9 @@ fn answer_now<D: Desk>(alloc: Global, desk: &mut D, name: &str, need: u64) -> Re
 fn commit<D: Desk>(alloc: Global, desk: &mut D, patch: Patch) -> Reply
     ensures step { (need : ℕ) (name body : List ℕ) → IsPatch body patch
         → IsStep (D.alone desk.old) (D.seat desk.old) need name body asks.Commit (D.history desk.old) (D.history desk.new) (shown result) }
-    ensures keeps { KeepsBoards (D.alone desk.old) (D.history desk.new) (boards_of (D.away desk.old) (D.taken desk.old)) (boards_of (D.away desk.new) (D.taken desk.new)) }
+    ensures keeps { KeepsBoards (D.alone desk.old) (D.history desk.new)
+        (boards_of (D.away desk.old) (D.taken desk.old))
+        (boards_of (D.away desk.new) (D.taken desk.new)) }
     ensures same_seat { D.seat desk.new ≡ D.seat desk.old }
     ensures same_alone { D.alone desk.new ≡ D.alone desk.old }
     ensures named { IsTrue (is_named result.status) }
@@ -165,7 +183,9 @@ fn answer_commit<D: Desk>(alloc: Global, desk: &mut D, body: &[u8]) -> Reply
     requires short { length body.now ≤ 67108864 }
     ensures step { (need : ℕ) (name : List ℕ) → IsStep (D.alone desk.old) (D.seat desk.old) need name body.now asks.Commit
         (D.history desk.old) (D.history desk.new) (shown result) }
-    ensures keeps { KeepsBoards (D.alone desk.old) (D.history desk.new) (boards_of (D.away desk.old) (D.taken desk.old)) (boards_of (D.away desk.new) (D.taken desk.new)) }
+    ensures keeps { KeepsBoards (D.alone desk.old) (D.history desk.new)
+        (boards_of (D.away desk.old) (D.taken desk.old))
+        (boards_of (D.away desk.new) (D.taken desk.new)) }
     ensures same_seat { D.seat desk.new ≡ D.seat desk.old }
     ensures same_alone { D.alone desk.new ≡ D.alone desk.old }
     ensures named { IsTrue (is_named result.status) }
@@ -191,7 +211,9 @@ pub fn answer<D: Rota>(
         (shown result) }
     ensures moved { Moves (D.alone desk.old) (boards_of (D.away desk.old) (D.taken desk.old)) (boards_of (D.away desk.new) (D.taken desk.new))
         (D.seat desk.old) asked (D.history desk.old) (D.history desk.new) (shown result) }
-    ensures out { StaysOut (D.alone desk.old) (D.history desk.new) (boards_of (D.away desk.old) (D.taken desk.old)) (boards_of (D.away desk.new) (D.taken desk.new)) }
+    ensures out { StaysOut (D.alone desk.old) (D.history desk.new)
+        (boards_of (D.away desk.old) (D.taken desk.old))
+        (boards_of (D.away desk.new) (D.taken desk.new)) }
     ensures same_seat { D.seat desk.new ≡ D.seat desk.old }
     ensures same_alone { D.alone desk.new ≡ D.alone desk.old }
     ensures named { IsTrue (is_named result.status) }

@@ -125,7 +125,8 @@ pub fn registered(name: &str, fresh: bool) -> Reply
 
 /// What a registration is answered that was refused, or for which no memory is found.
 pub fn register_failed(alloc: Global, error: RegisterErr) -> Reply
-    ensures shown { (name : List ℕ) → (shown result ≡ register_reply name (Err error)) ⊎ (shown result ≡ out_of_memory) }
+    ensures shown { (name : List ℕ) →
+        (shown result ≡ register_reply name (Err error)) ⊎ (shown result ≡ out_of_memory) }
     ensures named { IsTrue (is_named result.status) }
 {
     match register_refused(alloc, error) {

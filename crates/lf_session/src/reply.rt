@@ -143,7 +143,8 @@ fn over(version: u64, limit: Limit) -> Reply
     versioned(422, version, limit_body(limit))
 }
 
-/// A document of a version that is shared: its text, or what stands in its place. It takes no memory.
+/// A document of a version that is shared: its text, or what stands in its place. It takes no
+/// memory.
 #[tactic(auto, unfolding(lf_http::specs::Reply::reason))]
 pub fn document_reply(document: Arc<Doc>, version: u64) -> Reply
     ensures shown { shown result ≡ document_reply (arc_value document) version }
@@ -293,7 +294,8 @@ pub fn refused_reply(why: Refusal) -> Reply
     }
 }
 
-/// The reply to a refused head, after which the stream ends. None is sent where the input ended or failed.
+/// The reply to a refused head, after which the stream ends. None is sent where the input ended or
+/// failed.
 #[tactic(auto, unfolding(lf_http::specs::Reply::reason))]
 pub fn refusal(why: HeadErr) -> Option<Reply>
     ensures shown { option_map shown result ≡ refusal why }

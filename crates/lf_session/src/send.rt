@@ -34,8 +34,10 @@ pub fn send<K: Sink>(
     reply: &Reply,
 ) -> Result<(), Failed>
     requires named { IsTrue (is_named reply.now.status) }
-    ensures sent { OnOk result (K.held output.new ≡ appended (K.held output.old) (reply_bytes method close (shown reply.now))) }
-    ensures cut { OnErr result (AddsPart (K.held output.old) (K.held output.new) (reply_bytes method close (shown reply.now))) }
+    ensures sent { OnOk result (K.held output.new
+        ≡ appended (K.held output.old) (reply_bytes method close (shown reply.now))) }
+    ensures cut { OnErr result (AddsPart (K.held output.old) (K.held output.new)
+        (reply_bytes method close (shown reply.now))) }
     ensures cause { K.faults output.new ≡ count_after (K.faults output.old) result }
     ensures pending { buffers.new.pending ≡ buffers.old.pending }
 {

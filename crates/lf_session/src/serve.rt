@@ -141,7 +141,9 @@ fn serve_next<D: Rota, S: Source, K: Sink>(
     ensures same_alone { D.alone desk.new ≡ D.alone desk.old }
     ensures reads { S.faults input.new ≡ reads_after (S.faults input.old) result }
     ensures writes { K.faults output.new ≡ writes_after (K.faults output.old) result }
-    ensures fewer { result ≡ None → to_come (S.taken input.new) buffers.new.pending < to_come (S.taken input.old) buffers.old.pending }
+    ensures fewer { result ≡ None →
+        to_come (S.taken input.new) buffers.new.pending
+        < to_come (S.taken input.old) buffers.old.pending }
 {
     let head = match read_head(input, buffers) {
         Ok(Some(head)) => head,
@@ -157,16 +159,17 @@ fn serve_next<D: Rota, S: Source, K: Sink>(
     reply(alloc, desk, output, buffers, &head, need)
 }
 
-/// Serves one stream of requests over a desk (RFC 9112). Requests are answered one after another, and a turn is made for each
-/// that asks for one.
+/// Serves one stream of requests over a desk (RFC 9112). Requests are answered one after another,
+/// and a turn is made for each that asks for one.
 pub fn serve_stream<D: Rota, S: Source, K: Sink>(
     alloc: Global,
     desk: &mut D,
     input: &mut S,
     output: &mut K,
 ) -> Ended
-    // What was read and sent is a session over the desk's history. The seat's own operations in it are those before and what
-    // the requests made, in order. A turn is one that the boards, and the histories before and after it, allow.
+    // What was read and sent is a session over the desk's history. The seat's own operations in it
+    // are those before and what the requests made, in order. A turn is one that the boards, and the
+    // histories before and after it, allow.
     ensures served { IsServed (D.alone desk.old) (boards_of (D.away desk.old) (D.taken desk.old)) (boards_of (D.away desk.new) (D.taken desk.new))
         (D.seat desk.old) (D.history desk.old) (D.history desk.new)
         (record { left_before = S.left input.old; left_after = S.left input.new; held_before = K.held output.old; held_after = K.held output.new })
@@ -174,7 +177,8 @@ pub fn serve_stream<D: Rota, S: Source, K: Sink>(
     ensures same_seat { D.seat desk.new ≡ D.seat desk.old }
     ensures same_alone { D.alone desk.new ≡ D.alone desk.old }
 
-    // `ReadFault` and `WriteFault` come exactly where that object's count of faults rose, or stands at its end.
+    // `ReadFault` and `WriteFault` come exactly where that object's count of faults rose, or stands
+    // at its end.
     ensures reads { S.faults input.new ≡ reads_failed (S.faults input.old) result }
     ensures writes { K.faults output.new ≡ writes_failed (K.faults output.old) result }
 {

@@ -59,7 +59,9 @@ fn count_turn<D: Rota, L: Ledger>(alloc: Global, desk: &mut D, blank: Blank) -> 
         (D.history desk.old) (D.history desk.new) (shown result) }
     ensures moved { Moves (D.alone desk.old) (boards_of (D.away desk.old) (D.taken desk.old)) (boards_of (D.away desk.new) (D.taken desk.new))
         (D.seat desk.old) asks.Turn (D.history desk.old) (D.history desk.new) (shown result) }
-    ensures out { StaysOut (D.alone desk.old) (D.history desk.new) (boards_of (D.away desk.old) (D.taken desk.old)) (boards_of (D.away desk.new) (D.taken desk.new)) }
+    ensures out { StaysOut (D.alone desk.old) (D.history desk.new)
+        (boards_of (D.away desk.old) (D.taken desk.old))
+        (boards_of (D.away desk.new) (D.taken desk.new)) }
     ensures same_seat { D.seat desk.new ≡ D.seat desk.old }
     ensures same_alone { D.alone desk.new ≡ D.alone desk.old }
     ensures named { IsTrue (is_named result.status) }
@@ -74,7 +76,9 @@ pub fn answer_turn<D: Rota>(alloc: Global, desk: &mut D) -> Reply
         (D.history desk.old) (D.history desk.new) (shown result) }
     ensures moved { Moves (D.alone desk.old) (boards_of (D.away desk.old) (D.taken desk.old)) (boards_of (D.away desk.new) (D.taken desk.new))
         (D.seat desk.old) asks.Turn (D.history desk.old) (D.history desk.new) (shown result) }
-    ensures out { StaysOut (D.alone desk.old) (D.history desk.new) (boards_of (D.away desk.old) (D.taken desk.old)) (boards_of (D.away desk.new) (D.taken desk.new)) }
+    ensures out { StaysOut (D.alone desk.old) (D.history desk.new)
+        (boards_of (D.away desk.old) (D.taken desk.old))
+        (boards_of (D.away desk.new) (D.taken desk.new)) }
     ensures same_seat { D.seat desk.new ≡ D.seat desk.old }
     ensures same_alone { D.alone desk.new ≡ D.alone desk.old }
     ensures named { IsTrue (is_named result.status) }

@@ -137,8 +137,9 @@ pub fn add_labels(alloc: Global, counts: &mut Counts, tree: &Tree) -> Result<(),
     count_tree(alloc, counts, tree)
 }
 
-/// How often each blank node label stands in all trees of a document: at the id of a node or reference, in a reference of a
-/// default, and among types (JSON-LD 1.1 Framing, section 4.2). Its time grows as n log n in the items.
+/// How often each blank node label stands in all trees of a document: at the id of a node or
+/// reference, in a reference of a default, and among types (JSON-LD 1.1 Framing, section 4.2). Its
+/// time grows as n log n in the items.
 pub fn label_counts(alloc: Global, trees: &TreeList) -> Result<Counts, Memory>
     ensures { IfOk result (λ counts. (label : List ℕ) → count_in counts label
         ≡ label_count (map tree_data trees.now) label) }

@@ -1,4 +1,5 @@
-//! How often blank node labels stand in the trees of a document, and trees without the ids that are counted once.
+//! How often blank node labels stand in the trees of a document, and trees without the ids that are
+//! counted once.
 #![tactic(auto)]
 
 mod count;

@@ -42,7 +42,8 @@ fn prune_id(alloc: Global, counts: &Counts, id: &Option<Term>) -> Result<Option<
 
 #[cycle(pruning)]
 fn prune_tree(alloc: Global, counts: &Counts, tree: &Tree) -> Result<Tree, Memory>
-    ensures { IfOk result (λ pruned. tree_data pruned ≡ prune_node (count_in counts.now) (tree_data tree.now)) }
+    ensures { IfOk result
+        (λ pruned. tree_data pruned ≡ prune_node (count_in counts.now) (tree_data tree.now)) }
 {
     Ok(Tree {
         id: prune_id(alloc, counts, &tree.id)?,
@@ -55,7 +56,8 @@ fn prune_tree(alloc: Global, counts: &Counts, tree: &Tree) -> Result<Tree, Memor
 
 #[cycle(pruning)]
 fn prune_prop(alloc: Global, counts: &Counts, prop: &TreeProp) -> Result<TreeProp, Memory>
-    ensures { IfOk result (λ pruned. property_data pruned ≡ pruned_property (count_in counts.now) (property_data prop.now)) }
+    ensures { IfOk result (λ pruned.
+        property_data pruned ≡ pruned_property (count_in counts.now) (property_data prop.now)) }
 {
     Ok(TreeProp {
         property: prop.property.copy(alloc)?,
@@ -69,7 +71,8 @@ fn prune_reverse(
     counts: &Counts,
     reverse: &TreeReverse,
 ) -> Result<TreeReverse, Memory>
-    ensures { IfOk result (λ pruned. reverse_data pruned ≡ pruned_reverse (count_in counts.now) (reverse_data reverse.now)) }
+    ensures { IfOk result (λ pruned.
+        reverse_data pruned ≡ pruned_reverse (count_in counts.now) (reverse_data reverse.now)) }
 {
     Ok(TreeReverse {
         property: reverse.property.copy(alloc)?,
@@ -79,7 +82,8 @@ fn prune_reverse(
 
 #[cycle(pruning)]
 fn prune_value(alloc: Global, counts: &Counts, value: &TreeValue) -> Result<TreeValue, Memory>
-    ensures { IfOk result (λ pruned. entry_data pruned ≡ prune_entry (count_in counts.now) (entry_data value.now)) }
+    ensures { IfOk result
+        (λ pruned. entry_data pruned ≡ prune_entry (count_in counts.now) (entry_data value.now)) }
 {
     match value {
         TreeValue::Node(tree) => Ok(TreeValue::Node(prune_tree(alloc, counts, tree)?)),
@@ -92,7 +96,8 @@ fn prune_value(alloc: Global, counts: &Counts, value: &TreeValue) -> Result<Tree
 
 #[cycle(pruning)]
 fn prune_trees(alloc: Global, counts: &Counts, trees: &TreeList) -> Result<TreeList, Memory>
-    ensures { IfOk result (λ pruned. nodes_data pruned ≡ prune_nodes (count_in counts.now) (nodes_data trees.now)) }
+    ensures { IfOk result
+        (λ pruned. nodes_data pruned ≡ prune_nodes (count_in counts.now) (nodes_data trees.now)) }
 {
     let mut pruned = Vec::new(alloc);
     for tree in trees.as_slice() {
@@ -135,7 +140,8 @@ fn prune_values(
     counts: &Counts,
     values: &TreeValueList,
 ) -> Result<TreeValueList, Memory>
-    ensures { IfOk result (λ pruned. entries_data pruned ≡ prune_entries (count_in counts.now) (entries_data values.now)) }
+    ensures { IfOk result (λ pruned.
+        entries_data pruned ≡ prune_entries (count_in counts.now) (entries_data values.now)) }
 {
     let mut pruned = Vec::new(alloc);
     for value in values.as_slice() {
@@ -144,10 +150,12 @@ fn prune_values(
     Ok(ListOf::from_vec(pruned))
 }
 
-/// The tree without the blank node ids that are counted once (JSON-LD 1.1 Framing, section 4.2: prune blank node
-/// identifiers). Types and references of defaults stay. Its time grows with the tree's items.
+/// The tree without the blank node ids that are counted once (JSON-LD 1.1 Framing, section 4.2:
+/// prune blank node identifiers). Types and references of defaults stay. Its time grows with the
+/// tree's items.
 pub fn tidy(alloc: Global, tree: &Tree, counts: &Counts) -> Result<Tree, Memory>
-    ensures { IfOk result (λ pruned. tree_data pruned ≡ prune_node (count_in counts.now) (tree_data tree.now)) }
+    ensures { IfOk result
+        (λ pruned. tree_data pruned ≡ prune_node (count_in counts.now) (tree_data tree.now)) }
 {
     prune_tree(alloc, counts, tree)
 }

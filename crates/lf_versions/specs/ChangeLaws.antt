@@ -15,7 +15,8 @@ change_itself : (one : Change) → same_change one one ≡ true
 change_itself one = (quad_decides one.quad one.quad).1 refl
 
 pub changes_decide : (one two : Change) → Decides (same_change one two) (one ≡ two)
-changes_decide one two = (change_told one two, λ e. subst (λ c. same_change one c ≡ true) e (change_itself one))
+changes_decide one two =
+    (change_told one two, λ e. subst (λ c. same_change one c ≡ true) e (change_itself one))
 
 pub changes_equal : IsEquivalence same_change
 changes_equal =

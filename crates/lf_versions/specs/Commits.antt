@@ -1,4 +1,5 @@
--- A version is the commits that made it, in order; its dataset follows from them (RDF 1.1 Concepts, section 4).
+-- A version is the commits that made it, in order; its dataset follows from them (RDF 1.1 Concepts,
+-- section 4).
 use Rattle.std.specs.Prelude.{◌≡◌, ◌<◌, List, [], ◌∷◌, ◌++◌, ℕ, nat_lt, length, map, not, if◌then◌else◌, Result, Ok, Err}
 use Rattle.lf_rdf.specs.declared.quad.Quad.{Quad}
 use Rattle.lf_rdf.specs.declared.quad.Signed.{Signed}
@@ -22,13 +23,15 @@ dataset commits = at_version (lines_of commits) (length commits)
 abbrev pub with_commit : List Commit → ℕ → Patch → List Commit
 with_commit commits seat patch = commits ++ record { seat = seat; patch = patch } ∷ []
 
--- the version after a patch, or why there is none; the refusals stand in the order in which they are tried
+-- the version after a patch, or why there is none; the refusals stand in the order in which they
+-- are tried
 abbrev pub version_after : List Commit → Commit → Result (List Commit) VersionErr
 version_after commits commit =
     if not (nat_lt (length commits) most_commits)
     then Err (e.HistoryFull counted.Commits (length commits) most_commits)
     else if nat_lt most_quads (length (after (dataset commits) commit.patch.lines))
-    then Err (e.TooManyQuads (length (dataset commits)) (length (after (dataset commits) commit.patch.lines)))
+    then Err (e.TooManyQuads (length (dataset commits))
+    (length (after (dataset commits) commit.patch.lines)))
     else Ok (commits ++ commit ∷ [])
 
 abbrev pub Fails : VersionErr → Result (List Commit) VersionErr → Type 0

@@ -21,7 +21,8 @@ abbrev pub commits_of : List (ℕ × Arc Commit Global) → List Commit
 commits_of pairs = map arc_value (values pairs)
 
 -- the commits stand under the numbers from 0 on, and the index is that of their dataset
-pub record IsVersion (pairs : List (ℕ × Arc Commit Global)) (index : List Quad) (number : ℕ) : Type 0 where
+pub record IsVersion (pairs : List (ℕ × Arc Commit Global)) (index : List Quad) (number : ℕ) :
+    Type 0 where
   pub numbers : pairs ≡ numbered 0 (values pairs)
   pub counted : number ≡ length (commits_of pairs)
   pub few : number ≤ most_commits

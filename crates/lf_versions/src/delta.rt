@@ -74,7 +74,9 @@ fn put_lines(
 ) -> Result<(), Memory>
     requires one { length one.now ≤ most_quads }
     requires two { length two.now ≤ most_quads }
-    ensures { OnOk result (quads_of changes.new.keys ≡ changes_behind (differs one.now two.now) (quads_of changes.old.keys) (named_in lines.now)) }
+    ensures { OnOk result (quads_of changes.new.keys
+        ≡ changes_behind (differs one.now two.now) (quads_of changes.old.keys)
+        (named_in lines.now)) }
 {
     for line in lines {
         if differs(alloc, one, two, &line.quad)? {
@@ -105,7 +107,10 @@ fn changes_since(
 ) -> Result<IndexSet<Change>, Memory>
     requires one { length one.now ≤ most_quads }
     requires two { length two.now ≤ most_quads }
-    ensures { IfOk result (λ changes. quads_of changes.keys ≡ changes_behind (differs one.now two.now) [] (named (lines_of (commits_of (pairs_from nat_cmp from commits.now))))) }
+    ensures { IfOk result (λ changes.
+        quads_of changes.keys
+        ≡ changes_behind (differs one.now two.now) []
+        (named (lines_of (commits_of (pairs_from nat_cmp from commits.now))))) }
 {
     let mut changes = IndexSet::new(alloc);
     for pair in commits.from(&from) {
@@ -115,11 +120,13 @@ fn changes_since(
 }
 
 impl Version {
-    /// The quads that are in exactly one of this version and an older one, whose commits begin this one's. Each is there
-    /// once, in the order in which the later patches name them. It takes some log n comparisons a line for n quads.
+    /// The quads that are in exactly one of this version and an older one, whose commits begin this
+    /// one's. Each is there once, in the order in which the later patches name them. It takes some
+    /// log n comparisons a line for n quads.
     pub fn delta_since(&self, alloc: Global, older: &Version) -> Result<QuadList, Memory>
         requires begun { IsPrefix (lines_of older.now) (lines_of self.now) }
-        ensures differ { IfOk result (λ changed. (q : Quad) → holds changed q ≡ differs (dataset older.now) (dataset self.now) q) }
+        ensures differ { IfOk result (λ changed.
+            (q : Quad) → holds changed q ≡ differs (dataset older.now) (dataset self.now) q) }
         ensures once { IfOk result (λ changed. IsTrue (is_once changed)) }
     {
         let changes = changes_since(

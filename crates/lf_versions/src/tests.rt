@@ -1,4 +1,5 @@
-//! Versions that are kept, commits that change nothing, what changed between two versions, and a full history.
+//! Versions that are kept, commits that change nothing, what changed between two versions, and a
+//! full history.
 ghost use Rattle.def_histories.specs.Jobs.{IsPrefix};
 ghost use Rattle.lf_versions.specs.Commits.{lines_of};
 

@@ -1,4 +1,5 @@
-//! A version: the commits that made it and the index of its quads, which it shares with the versions around it.
+//! A version: the commits that made it and the index of its quads, which it shares with the
+//! versions around it.
 ghost use Rattle.std.specs.Prelude.{◌≡◌, ◌<◌, ◌≤◌, ◌∷◌, ◌++◌, [], length, IfOk};
 ghost use Rattle.std.specs.Arc.{arc_value};
 ghost use Rattle.def_histories.specs.Legal.{most_commits, most_quads};
@@ -21,8 +22,8 @@ const MOST_COMMITS: u64 = 65_536;
 
 /// A version of the dataset. Contracts see the commits that made it, in order; version 0 has none.
 ///
-/// A version doesn't change: `commit` gives another one, which shares with this one what both have. A version costs what
-/// its patch touches, and the roots of four orders.
+/// A version doesn't change: `commit` gives another one, which shares with this one what both have.
+/// A version costs what its patch touches, and the roots of four orders.
 #[derive(Drop)]
 pub struct Version {
     index: Arc<Index>,
@@ -83,8 +84,9 @@ impl Version {
         })
     }
 
-    /// The version after a patch, also where the patch changes nothing. This one stays. `HistoryFull` comes exactly where
-    /// there are 65,536 commits, and then `TooManyQuads` exactly where the version would have more than 400,000 quads.
+    /// The version after a patch, also where the patch changes nothing. This one stays.
+    /// `HistoryFull` comes exactly where there are 65,536 commits, and then `TooManyQuads` exactly
+    /// where the version would have more than 400,000 quads.
     pub fn commit(&self, alloc: Global, seat: u64, patch: Patch) -> Result<Version, VersionErr>
         ensures { Makes (version_after self.now (record { seat = seat; patch = patch })) result }
     {

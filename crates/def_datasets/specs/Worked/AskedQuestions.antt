@@ -17,7 +17,8 @@ pub in_order : is_dataset dataset ≡ true
 unfolding a b g l p rdf_type xsd_string
 in_order = refl
 
-pub out_of_a : answer dataset (ask.Out graph.Default a) ≡ Quads (quad a l b ∷ quad a rdf_type b ∷ [])
+pub out_of_a :
+    answer dataset (ask.Out graph.Default a) ≡ Quads (quad a l b ∷ quad a rdf_type b ∷ [])
 unfolding a b g l p rdf_type xsd_string
 out_of_a = refl
 

@@ -1,4 +1,5 @@
--- A quad that one patch deletes and adds stays, and the empty patch changes nothing; each patch makes a version.
+-- A quad that one patch deletes and adds stays, and the empty patch changes nothing; each patch
+-- makes a version.
 use Rattle.std.specs.Prelude.{◌≡◌, refl, List, [], ◌∷◌, codes}
 use Rattle.lf_rdf.specs.declared.quad.Quad.{Quad}
 use Rattle.lf_rdf.specs.declared.quad.Signed.{Signed}
@@ -10,7 +11,8 @@ abbrev pub statement : Quad
 statement = quad a p (plain (codes "x"))
 
 abbrev pub patches : List (List Signed)
-patches = (added statement ∷ []) ∷ (deleted statement ∷ added statement ∷ []) ∷ [] ∷ (deleted statement ∷ []) ∷ []
+patches = (added statement ∷ []) ∷ (deleted statement ∷ added statement ∷ []) ∷ []
+    ∷ (deleted statement ∷ []) ∷ []
 
 pub version_0 : at_version patches 0 ≡ []
 unfolding a p xsd_string

@@ -38,8 +38,8 @@ pub still_a_cell : list_all cell_beside
 unfolding a b g l p nil c rdf_type rdf_first rdf_rest rdf_nil rdf_list xsd_string
 still_a_cell = refl
 
--- another type, a literal as type, two types, a further triple, a second item or rest, a second use, here or in another graph,
--- and a graph of its name
+-- another type, a literal as type, two types, a further triple, a second item or rest, a second
+-- use, here or in another graph, and a graph of its name
 pub no_cell : list_any cell_beside
     ((quad c rdf_type b ∷ [])
     ∷ (quad c rdf_type (plain rdf_list) ∷ [])
@@ -73,7 +73,9 @@ unfolding a b g l nil c rdf_type rdf_first rdf_rest rdf_nil rdf_list xsd_string
 no_list = refl
 
 -- an IRI is no cell
-pub iri_is_no_cell : is_shaped (quad a l b ∷ quad b rdf_first (plain (codes "1")) ∷ quad b rdf_rest nil ∷ []) graph.Default b ≡ false
+pub iri_is_no_cell :
+    is_shaped (quad a l b ∷ quad b rdf_first (plain (codes "1")) ∷ quad b rdf_rest nil ∷ [])
+    graph.Default b ≡ false
 unfolding a b l nil rdf_type rdf_first rdf_rest rdf_nil rdf_list xsd_string
 iri_is_no_cell = refl
 
@@ -81,17 +83,21 @@ iri_is_no_cell = refl
 abbrev pub ring_of_rests : List Quad
 ring_of_rests =
     dataset_of
-    (quad c rdf_first (plain (codes "1")) ∷ quad c rdf_rest d ∷ quad d rdf_first (plain (codes "2")) ∷ quad d rdf_rest c ∷ [])
+    (quad c rdf_first (plain (codes "1")) ∷ quad c rdf_rest d ∷ quad d rdf_first (plain (codes "2"))
+    ∷ quad d rdf_rest c ∷ [])
 
-pub rests_are_shaped : (is_shaped ring_of_rests graph.Default c && is_shaped ring_of_rests graph.Default d) ≡ true
+pub rests_are_shaped :
+    (is_shaped ring_of_rests graph.Default c && is_shaped ring_of_rests graph.Default d) ≡ true
 unfolding c d rdf_type rdf_first rdf_rest rdf_nil rdf_list xsd_string
 rests_are_shaped = refl
 
-pub rests_are_not_proper : (is_proper ring_of_rests graph.Default c || is_proper ring_of_rests graph.Default d) ≡ false
+pub rests_are_not_proper :
+    (is_proper ring_of_rests graph.Default c || is_proper ring_of_rests graph.Default d) ≡ false
 unfolding c d rdf_type rdf_first rdf_rest rdf_nil rdf_list xsd_string
 rests_are_not_proper = refl
 
--- two lists, each the first item of the other, and a second node behind the first: proper, and no cells
+-- two lists, each the first item of the other, and a second node behind the first: proper, and no
+-- cells
 abbrev pub ring_of_items : List Quad
 ring_of_items =
     dataset_of

@@ -45,7 +45,8 @@ pub list_of_three : view_of version_1 graph.Default a
       props =
           record {
             property = l;
-            values = list (values_of (literal (plain (codes "1")) ∷ literal (plain (codes "2")) ∷ literal (plain (codes "3")) ∷ [])) ∷ [];
+            values = list (values_of (literal (plain (codes "1")) ∷ literal (plain (codes "2"))
+                ∷ literal (plain (codes "3")) ∷ [])) ∷ [];
           }
           ∷ [];
     }
@@ -56,13 +57,15 @@ pub keys_1 : keys version_1 graph.Default ≡ a ∷ []
 unfolding a l x nil c1 c2 c3 rdf_type rdf_first rdf_rest rdf_nil rdf_list xsd_string
 keys_1 = refl
 
--- with the further triple the second node is no list node, so the first isn't either; the third begins a list of its own
+-- with the further triple the second node is no list node, so the first isn't either; the third
+-- begins a list of its own
 pub in_order_2 : is_dataset version_2 ≡ true
 unfolding a l x nil c1 c2 c3 rdf_type rdf_first rdf_rest rdf_nil rdf_list xsd_string
 in_order_2 = refl
 
 pub head_is_a_node : view_of version_2 graph.Default a
-    ≡ Some record { id = a; types = []; props = record { property = l; values = reference c1 ∷ [] } ∷ [] }
+    ≡ Some record
+    { id = a; types = []; props = record { property = l; values = reference c1 ∷ [] } ∷ [] }
 unfolding a l x nil c1 c2 c3 rdf_type rdf_first rdf_rest rdf_nil rdf_list xsd_string
 head_is_a_node = refl
 
@@ -87,7 +90,10 @@ pub second_node : view_of version_2 graph.Default c2
       props =
           record { property = x; values = literal (plain (codes "y")) ∷ [] }
           ∷ record { property = rdf_first; values = literal (plain (codes "2")) ∷ [] }
-          ∷ record { property = rdf_rest; values = list (values_of (literal (plain (codes "3")) ∷ [])) ∷ [] }
+          ∷ record {
+            property = rdf_rest;
+            values = list (values_of (literal (plain (codes "3")) ∷ [])) ∷ [];
+          }
           ∷ [];
     }
 unfolding a l x nil c1 c2 c3 rdf_type rdf_first rdf_rest rdf_nil rdf_list xsd_string

@@ -1,4 +1,5 @@
--- Types in order of their ids, values in order of their canonical texts, and a literal under `rdf:type` as a property.
+-- Types in order of their ids, values in order of their canonical texts, and a literal under
+-- `rdf:type` as a property.
 use Rattle.std.specs.Prelude.{◌≡◌, refl, List, [], ◌∷◌, codes, Some}
 use Rattle.lf_rdf.specs.declared.term.Term.{Term}
 use Rattle.lf_rdf.specs.declared.term.Term.TheVariants.{Iri, Blank}
@@ -33,7 +34,11 @@ pub default_view : view_of dataset graph.Default a
       types = c ∷ shape ∷ [];
       props =
           record { property = l; values = reference b ∷ [] }
-          ∷ record { property = p; values = literal (plain (codes "z")) ∷ reference b ∷ list no_values ∷ reference c ∷ [] }
+          ∷ record {
+            property = p;
+            values =
+                literal (plain (codes "z")) ∷ reference b ∷ list no_values ∷ reference c ∷ [];
+          }
           ∷ record { property = rdf_type; values = literal (plain (codes "T")) ∷ [] }
           ∷ [];
     }
@@ -51,7 +56,8 @@ pub merged_view : view_of dataset graph.Merged a
           ∷ record {
             property = p;
             values =
-                literal (plain (codes "a")) ∷ literal (plain (codes "z")) ∷ reference b ∷ list no_values ∷ reference c ∷ [];
+                literal (plain (codes "a")) ∷ literal (plain (codes "z")) ∷ reference b
+                ∷ list no_values ∷ reference c ∷ [];
           }
           ∷ record { property = rdf_type; values = literal (plain (codes "T")) ∷ [] }
           ∷ [];

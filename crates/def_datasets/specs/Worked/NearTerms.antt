@@ -1,4 +1,5 @@
--- Terms near the subject of a list: its cells; and near a named graph's name: what stands in the graph.
+-- Terms near the subject of a list: its cells; and near a named graph's name: what stands in the
+-- graph.
 use Rattle.std.specs.Prelude.{refl, [], ◌∷◌, codes}
 use Rattle.lf_rdf.specs.declared.question.GraphRef.TheVariants as graph
 use Rattle.lf_rdf.specs.declared.question.Question.TheVariants as ask

@@ -22,7 +22,8 @@ d = Blank (codes "d")
 
 abbrev pub dataset : List Quad
 dataset =
-    quad a l c1 ∷ quad c1 rdf_first d ∷ quad c1 rdf_rest c2 ∷ quad c2 rdf_first b ∷ quad c2 rdf_rest nil
+    quad a l c1 ∷ quad c1 rdf_first d ∷ quad c1 rdf_rest c2 ∷ quad c2 rdf_first b
+    ∷ quad c2 rdf_rest nil
     ∷ quad d rdf_first (plain (codes "1"))
     ∷ quad d rdf_rest nil
     ∷ quad d rdf_type (Iri rdf_list)

@@ -23,7 +23,8 @@ unfolding a b g l nil c rdf_type rdf_first rdf_rest rdf_nil rdf_list xsd_string
 in_order = refl
 
 pub head_is_a_node : view_of used_twice graph.Default a
-    ≡ Some record { id = a; types = []; props = record { property = l; values = reference c ∷ [] } ∷ [] }
+    ≡ Some record
+    { id = a; types = []; props = record { property = l; values = reference c ∷ [] } ∷ [] }
 unfolding a b g l nil c rdf_type rdf_first rdf_rest rdf_nil rdf_list xsd_string
 head_is_a_node = refl
 

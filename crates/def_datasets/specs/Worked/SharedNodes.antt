@@ -49,7 +49,9 @@ pub list_of_graph : view_of list_in_graph graph.Merged a
     record {
       id = a;
       types = [];
-      props = record { property = l; values = list (values_of (literal (plain (codes "1")) ∷ [])) ∷ [] } ∷ [];
+      props =
+          record { property = l; values = list (values_of (literal (plain (codes "1")) ∷ [])) ∷ [] }
+          ∷ [];
     }
 unfolding a b g l p nil c rdf_type rdf_first rdf_rest rdf_nil rdf_list xsd_string
 list_of_graph = refl
@@ -68,10 +70,12 @@ unfolding a p nil rdf_type rdf_first rdf_rest rdf_nil rdf_list
 nil_as_name = refl
 
 -- a type is a key only of a graph in which it is something else too
-pub type_elsewhere : keys (dataset_of (quad a rdf_type b ∷ quad_in g b p a ∷ [])) graph.Default ≡ a ∷ g ∷ []
+pub type_elsewhere :
+    keys (dataset_of (quad a rdf_type b ∷ quad_in g b p a ∷ [])) graph.Default ≡ a ∷ g ∷ []
 unfolding a b g p rdf_type rdf_first rdf_rest rdf_nil rdf_list
 type_elsewhere = refl
 
-pub type_is_subject : keys (dataset_of (quad a rdf_type b ∷ quad_in g b p a ∷ [])) (graph.Named g) ≡ a ∷ b ∷ []
+pub type_is_subject :
+    keys (dataset_of (quad a rdf_type b ∷ quad_in g b p a ∷ [])) (graph.Named g) ≡ a ∷ b ∷ []
 unfolding a b g p rdf_type rdf_first rdf_rest rdf_nil rdf_list
 type_is_subject = refl

@@ -36,17 +36,22 @@ d = Scalar (Text (codes "d")) None None
 pub takes_default :
     outcome_in one_value (wants_y (Some (d ∷ []))) Merged a
     ≡ matched (output a [] ((p, fallback_entry d ∷ []) ∷ []))
-unfolding embed emit emit_all accepts kind_accepts prop_tests one_value wants_y a p d xsd_string rdf_type rdf_first rdf_rest rdf_nil rdf_list
+unfolding embed emit emit_all accepts kind_accepts prop_tests one_value wants_y a p d xsd_string
+    rdf_type rdf_first rdf_rest rdf_nil rdf_list
 takes_default = refl
 
 pub takes_null :
-    outcome_in one_value (wants_y None) Merged a ≡ matched (output a [] ((p, fallback_entry Null ∷ []) ∷ []))
-unfolding embed emit emit_all accepts kind_accepts prop_tests one_value wants_y a p xsd_string rdf_type rdf_first rdf_rest rdf_nil rdf_list
+    outcome_in one_value (wants_y None) Merged a
+    ≡ matched (output a [] ((p, fallback_entry Null ∷ []) ∷ []))
+unfolding embed emit emit_all accepts kind_accepts prop_tests one_value wants_y a p xsd_string
+    rdf_type rdf_first rdf_rest rdf_nil rdf_list
 takes_null = refl
 
 pub takes_empty :
-    outcome_in one_value (wants_y (Some [])) Merged a ≡ matched (output a [] ((p, empty_fallback ∷ []) ∷ []))
-unfolding embed emit emit_all accepts kind_accepts prop_tests one_value wants_y a p xsd_string rdf_type rdf_first rdf_rest rdf_nil rdf_list
+    outcome_in one_value (wants_y (Some [])) Merged a
+    ≡ matched (output a [] ((p, empty_fallback ∷ []) ∷ []))
+unfolding embed emit emit_all accepts kind_accepts prop_tests one_value wants_y a p xsd_string
+    rdf_type rdf_first rdf_rest rdf_nil rdf_list
 takes_empty = refl
 
 -- two nodes with different properties
@@ -58,13 +63,16 @@ unfoldable pub without_p : Nested
 without_p = form plain (prop p match_none no_props)
 
 pub present_refused : outcome_in apart without_p Merged a ≡ no_match
-unfolding embed emit emit_all accepts kind_accepts prop_tests apart without_p a b p q xsd_string rdf_type rdf_first rdf_rest rdf_nil rdf_list
+unfolding embed emit emit_all accepts kind_accepts prop_tests apart without_p a b p q xsd_string
+    rdf_type rdf_first rdf_rest rdf_nil rdf_list
 present_refused = refl
 
 pub absent_matched :
     outcome_in apart without_p Merged b
-    ≡ matched (output b [] ((q, literal_entry (string (codes "2")) ∷ []) ∷ (p, fallback_entry Null ∷ []) ∷ []))
-unfolding embed emit emit_all accepts kind_accepts prop_tests apart without_p a b p q xsd_string rdf_type rdf_first rdf_rest rdf_nil rdf_list
+    ≡ matched (output b []
+    ((q, literal_entry (string (codes "2")) ∷ []) ∷ (p, fallback_entry Null ∷ []) ∷ []))
+unfolding embed emit emit_all accepts kind_accepts prop_tests apart without_p a b p q xsd_string
+    rdf_type rdf_first rdf_rest rdf_nil rdf_list
 absent_matched = refl
 
 -- the frame `{"http://e/p": {}, "http://e/q": {}}`
@@ -73,8 +81,10 @@ with_either = form plain (prop p any (prop q any no_props))
 
 pub one_suffices :
     outcome_in apart with_either Merged a
-    ≡ matched (output a [] ((p, literal_entry (string (codes "1")) ∷ []) ∷ (q, fallback_entry Null ∷ []) ∷ []))
-unfolding embed emit emit_all accepts kind_accepts prop_tests apart with_either a b p q xsd_string rdf_type rdf_first rdf_rest rdf_nil rdf_list
+    ≡ matched (output a []
+    ((p, literal_entry (string (codes "1")) ∷ []) ∷ (q, fallback_entry Null ∷ []) ∷ []))
+unfolding embed emit emit_all accepts kind_accepts prop_tests apart with_either a b p q xsd_string
+    rdf_type rdf_first rdf_rest rdf_nil rdf_list
 one_suffices = refl
 
 -- the same frame with `"@requireAll": true`
@@ -82,7 +92,8 @@ unfoldable pub with_both : Nested
 with_both = form (record plain { require_all = true }) (prop p any (prop q any no_props))
 
 pub both_required : outcome_in apart with_both Merged a ≡ no_match
-unfolding embed emit emit_all accepts kind_accepts prop_tests apart with_both a b p q xsd_string rdf_type rdf_first rdf_rest rdf_nil rdf_list
+unfolding embed emit emit_all accepts kind_accepts prop_tests apart with_both a b p q xsd_string
+    rdf_type rdf_first rdf_rest rdf_nil rdf_list
 both_required = refl
 
 -- the frame `{"@requireAll": true, "http://e/p": {}, "http://e/q": []}`
@@ -91,6 +102,8 @@ with_p_alone = form (record plain { require_all = true }) (prop p any (prop q ma
 
 pub both_hold :
     outcome_in apart with_p_alone Merged a
-    ≡ matched (output a [] ((p, literal_entry (string (codes "1")) ∷ []) ∷ (q, fallback_entry Null ∷ []) ∷ []))
-unfolding embed emit emit_all accepts kind_accepts prop_tests apart with_p_alone a b p q xsd_string rdf_type rdf_first rdf_rest rdf_nil rdf_list
+    ≡ matched (output a []
+    ((p, literal_entry (string (codes "1")) ∷ []) ∷ (q, fallback_entry Null ∷ []) ∷ []))
+unfolding embed emit emit_all accepts kind_accepts prop_tests apart with_p_alone a b p q xsd_string
+    rdf_type rdf_first rdf_rest rdf_nil rdf_list
 both_hold = refl

@@ -16,7 +16,8 @@ use Rattle.def_framing.specs.Worked.Words.{a, b, c, n, p, q, any, string, quad, 
 use mathlib.Core.Path.{refl}
 
 unfoldable pub linked : Views
-linked = of_dataset (quad a n (string (codes "A")) ∷ quad a p b ∷ quad b n (string (codes "B")) ∷ [])
+linked =
+    of_dataset (quad a n (string (codes "A")) ∷ quad a p b ∷ quad b n (string (codes "B")) ∷ [])
 
 -- the frame `{"@id": "http://e/a", "@explicit": true, "http://e/n": {}, "http://e/q": {}}`
 unfoldable pub explicit_n : Nested
@@ -25,17 +26,22 @@ explicit_n = form (record (named a) { explicit = true }) (prop n any (prop q any
 -- a property that the frame doesn't state is skipped, and one that the node lacks is null
 pub others_skipped :
     outcome_in linked explicit_n Merged a
-    ≡ matched (output a [] ((n, literal_entry (string (codes "A")) ∷ []) ∷ (q, fallback_entry Null ∷ []) ∷ []))
-unfolding embed emit emit_all accepts kind_accepts prop_tests linked explicit_n a b n p q xsd_string rdf_type rdf_first rdf_rest rdf_nil rdf_list
+    ≡ matched (output a []
+    ((n, literal_entry (string (codes "A")) ∷ []) ∷ (q, fallback_entry Null ∷ []) ∷ []))
+unfolding embed emit emit_all accepts kind_accepts prop_tests linked explicit_n a b n p q xsd_string
+    rdf_type rdf_first rdf_rest rdf_nil rdf_list
 others_skipped = refl
 
 -- the same frame with `"@omitDefault": true`
 unfoldable pub omitting : Nested
-omitting = form (record (named a) { explicit = true; omit_default = Some true }) (prop n any (prop q any no_props))
+omitting = form (record (named a) { explicit = true; omit_default = Some true })
+    (prop n any (prop q any no_props))
 
 pub default_omitted :
-    outcome_in linked omitting Merged a ≡ matched (output a [] ((n, literal_entry (string (codes "A")) ∷ []) ∷ []))
-unfolding embed emit emit_all accepts kind_accepts prop_tests linked omitting a b n p q xsd_string rdf_type rdf_first rdf_rest rdf_nil rdf_list
+    outcome_in linked omitting Merged a
+    ≡ matched (output a [] ((n, literal_entry (string (codes "A")) ∷ []) ∷ []))
+unfolding embed emit emit_all accepts kind_accepts prop_tests linked omitting a b n p q xsd_string
+    rdf_type rdf_first rdf_rest rdf_nil rdf_list
 default_omitted = refl
 
 -- the frame `{"@id": "http://e/a", "http://e/p": {"@embed": "@never"}}`
@@ -45,8 +51,10 @@ never_p = form (named a) (prop p (wildcard (record plain { embed = Never })) no_
 pub reference_alone :
     outcome_in linked never_p Merged a
     ≡ matched
-    (output a [] ((n, literal_entry (string (codes "A")) ∷ []) ∷ (p, node_entry (bare b) ∷ []) ∷ []))
-unfolding embed emit emit_all accepts kind_accepts prop_tests linked never_p a b n p q xsd_string rdf_type rdf_first rdf_rest rdf_nil rdf_list
+    (output a []
+    ((n, literal_entry (string (codes "A")) ∷ []) ∷ (p, node_entry (bare b) ∷ []) ∷ []))
+unfolding embed emit emit_all accepts kind_accepts prop_tests linked never_p a b n p q xsd_string
+    rdf_type rdf_first rdf_rest rdf_nil rdf_list
 reference_alone = refl
 
 -- the frame `{"@id": "http://e/b", "@type": {"@default": "http://e/c"}}`
@@ -56,5 +64,6 @@ typed_c = form (record (named b) { types = type_test.Fallback (c ∷ []) }) no_p
 pub type_given :
     outcome_in linked typed_c Merged b
     ≡ matched (output b (c ∷ []) ((n, literal_entry (string (codes "B")) ∷ []) ∷ []))
-unfolding embed emit emit_all accepts kind_accepts prop_tests linked typed_c a b c n p q xsd_string rdf_type rdf_first rdf_rest rdf_nil rdf_list
+unfolding embed emit emit_all accepts kind_accepts prop_tests linked typed_c a b c n p q xsd_string
+    rdf_type rdf_first rdf_rest rdf_nil rdf_list
 type_given = refl

@@ -17,7 +17,8 @@ use mathlib.Core.Path.{refl}
 
 -- the frame `{"@id": "http://e/a", "@reverse": {"http://e/p": {}}}`
 unfoldable pub pointed_at : Nested
-pointed_at = frame_map (named a) no_props (reverse_prop p any nested.no_reverses) no_graph node_frame
+pointed_at =
+    frame_map (named a) no_props (reverse_prop p any nested.no_reverses) no_graph node_frame
 
 -- one node, before another refers to it
 unfoldable pub alone : Views
@@ -26,7 +27,8 @@ alone = of_dataset (quad a n (string (codes "A")) ∷ [])
 pub none_points :
     outcome_in alone pointed_at Merged a
     ≡ matched (output a [] ((n, literal_entry (string (codes "A")) ∷ []) ∷ []))
-unfolding embed emit emit_all accepts kind_accepts prop_tests alone pointed_at a p n xsd_string rdf_type rdf_first rdf_rest rdf_nil rdf_list
+unfolding embed emit emit_all accepts kind_accepts prop_tests alone pointed_at a p n xsd_string
+    rdf_type rdf_first rdf_rest rdf_nil rdf_list
 none_points = refl
 
 -- and after
@@ -39,7 +41,8 @@ pub one_points :
     (tree (Some a) [] no_nodes
     (properties_of ((n, entries_of (literal_entry (string (codes "A")) ∷ [])) ∷ []))
     (reverses_of ((p, nodes_of (output b [] ((p, node_entry (bare a) ∷ []) ∷ []) ∷ [])) ∷ [])))
-unfolding embed emit emit_all accepts kind_accepts prop_tests arrived pointed_at a b p n xsd_string rdf_type rdf_first rdf_rest rdf_nil rdf_list
+unfolding embed emit emit_all accepts kind_accepts prop_tests arrived pointed_at a b p n xsd_string
+    rdf_type rdf_first rdf_rest rdf_nil rdf_list
 one_points = refl
 
 -- a node lies in a named graph; the name is a key of the default graph
@@ -52,22 +55,26 @@ pub graph_entered :
     ≡ matched
     (tree (Some g) [] (nodes_of (output a [] ((p, literal_entry (string (codes "1")) ∷ []) ∷ []) ∷ []))
     no_properties no_reverses)
-unfolding embed emit emit_all accepts kind_accepts prop_tests in_named a g p xsd_string rdf_type rdf_first rdf_rest rdf_nil rdf_list
+unfolding embed emit emit_all accepts kind_accepts prop_tests in_named a g p xsd_string rdf_type
+    rdf_first rdf_rest rdf_nil rdf_list
 graph_entered = refl
 
 pub named_node_no_key : outcome_in in_named any (framed_graph true) a ≡ not_key
-unfolding embed emit emit_all accepts kind_accepts prop_tests in_named a g p xsd_string rdf_type rdf_first rdf_rest rdf_nil rdf_list
+unfolding embed emit emit_all accepts kind_accepts prop_tests in_named a g p xsd_string rdf_type
+    rdf_first rdf_rest rdf_nil rdf_list
 named_node_no_key = refl
 
 -- the frame `{}`: the graphs are merged, and none is entered
 pub graph_merged : outcome_in in_named any (framed_graph false) g ≡ matched (bare g)
-unfolding embed emit emit_all accepts kind_accepts prop_tests in_named a g p xsd_string rdf_type rdf_first rdf_rest rdf_nil rdf_list
+unfolding embed emit emit_all accepts kind_accepts prop_tests in_named a g p xsd_string rdf_type
+    rdf_first rdf_rest rdf_nil rdf_list
 graph_merged = refl
 
 pub named_node_merged :
     outcome_in in_named any (framed_graph false) a
     ≡ matched (output a [] ((p, literal_entry (string (codes "1")) ∷ []) ∷ []))
-unfolding embed emit emit_all accepts kind_accepts prop_tests in_named a g p xsd_string rdf_type rdf_first rdf_rest rdf_nil rdf_list
+unfolding embed emit emit_all accepts kind_accepts prop_tests in_named a g p xsd_string rdf_type
+    rdf_first rdf_rest rdf_nil rdf_list
 named_node_merged = refl
 
 -- a list of a plain value, a list and a node
@@ -112,5 +119,6 @@ pub list_kept :
           ∷ [],
     )
     ∷ []))
-unfolding embed emit emit_all accepts kind_accepts prop_tests with_list a b l c1 c2 c3 d1 xsd_string rdf_type rdf_first rdf_rest rdf_nil rdf_list
+unfolding embed emit emit_all accepts kind_accepts prop_tests with_list a b l c1 c2 c3 d1 xsd_string
+    rdf_type rdf_first rdf_rest rdf_nil rdf_list
 list_kept = refl

@@ -66,7 +66,8 @@ typed wanted = record plain { types = type_test.OneOf (wanted ∷ []) }
 unfoldable pub library_frame : Nested
 library_frame =
     frame_map (typed library_type)
-    (prop contains (frame_map (typed book_type) no_props no_reverses no_graph node_frame) no_props) no_reverses no_graph
+    (prop contains (frame_map (typed book_type) no_props no_reverses no_graph node_frame) no_props)
+    no_reverses no_graph
     node_frame
 
 pub library_tree :
@@ -81,15 +82,21 @@ pub library_tree :
           ∷ [],
     )
     ∷ []))
-unfolding embed emit emit_all accepts kind_accepts prop_tests shelves library_frame the_library the_book plato library_type book_type contains title creator republic rdf_lang_string xsd_string rdf_type rdf_first rdf_rest rdf_nil rdf_list
+unfolding embed emit emit_all accepts kind_accepts prop_tests shelves library_frame the_library
+    the_book plato library_type book_type contains title creator republic rdf_lang_string xsd_string
+    rdf_type rdf_first rdf_rest rdf_nil rdf_list
 library_tree = refl
 
 pub book_unmatched : outcome_in shelves library_frame Merged the_book ≡ no_match
-unfolding embed emit emit_all accepts kind_accepts prop_tests shelves library_frame the_library the_book plato library_type book_type contains title creator republic rdf_type rdf_first rdf_rest rdf_nil rdf_list
+unfolding embed emit emit_all accepts kind_accepts prop_tests shelves library_frame the_library
+    the_book plato library_type book_type contains title creator republic rdf_type rdf_first
+    rdf_rest rdf_nil rdf_list
 book_unmatched = refl
 
 pub type_no_key : outcome_in shelves library_frame Merged library_type ≡ not_key
-unfolding embed emit emit_all accepts kind_accepts prop_tests shelves library_frame the_library the_book plato library_type book_type contains title creator republic rdf_type rdf_first rdf_rest rdf_nil rdf_list
+unfolding embed emit emit_all accepts kind_accepts prop_tests shelves library_frame the_library
+    the_book plato library_type book_type contains title creator republic rdf_type rdf_first
+    rdf_rest rdf_nil rdf_list
 type_no_key = refl
 
 -- the frame as a table of two numbered maps

@@ -24,20 +24,24 @@ pub last_items :
     embed small 256 Merged a any true [] (after 65534)
     ≡ gives (output a [] ((p, literal_entry (string (codes "1")) ∷ []) ∷ []))
     (record { embedded = record { graph = Merged; id = a } ∷ []; count = 65536 })
-unfolding embed emit emit_all accepts kind_accepts prop_tests small a b p xsd_string rdf_type rdf_first rdf_rest rdf_nil rdf_list
+unfolding embed emit emit_all accepts kind_accepts prop_tests small a b p xsd_string rdf_type
+    rdf_first rdf_rest rdf_nil rdf_list
 last_items = refl
 
 -- the value would be item 65,537
 pub one_item_more : embed small 256 Merged a any true [] (after 65535) ≡ over TreeItems
-unfolding embed emit emit_all accepts kind_accepts prop_tests small a b p xsd_string rdf_type rdf_first rdf_rest rdf_nil rdf_list
+unfolding embed emit emit_all accepts kind_accepts prop_tests small a b p xsd_string rdf_type
+    rdf_first rdf_rest rdf_nil rdf_list
 one_item_more = refl
 
 -- the second node on the path has no room
 pub no_room_left : embed small 1 Merged b any true [] at_first ≡ over Depth
-unfolding embed emit emit_all accepts kind_accepts prop_tests small a b p xsd_string rdf_type rdf_first rdf_rest rdf_nil rdf_list
+unfolding embed emit emit_all accepts kind_accepts prop_tests small a b p xsd_string rdf_type
+    rdf_first rdf_rest rdf_nil rdf_list
 no_room_left = refl
 
 -- the depth is tried before the count
 pub depth_first : embed small 0 Merged b any true [] (after 65536) ≡ over Depth
-unfolding embed emit emit_all accepts kind_accepts prop_tests small a b p xsd_string rdf_type rdf_first rdf_rest rdf_nil rdf_list
+unfolding embed emit emit_all accepts kind_accepts prop_tests small a b p xsd_string rdf_type
+    rdf_first rdf_rest rdf_nil rdf_list
 depth_first = refl

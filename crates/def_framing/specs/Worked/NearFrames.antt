@@ -1,4 +1,5 @@
--- Worked cases: the properties of the `@reverse` maps of nested frames, and what is near a term for such a frame.
+-- Worked cases: the properties of the `@reverse` maps of nested frames, and what is near a term for
+-- such a frame.
 use Rattle.std.specs.Prelude.{◌≡◌, List, [], ◌∷◌, ℕ, codes}
 use Rattle.lf_rdf.specs.declared.quad.Quad.{Quad}
 use Rattle.lf_rdf.specs.declared.question.Question.TheVariants as ask
@@ -16,12 +17,14 @@ none_in_wildcard = refl
 unfoldable pub pointed : Nested
 pointed = frame_map plain no_props (reverse_prop p any nested.no_reverses) no_graph node_frame
 
--- the frame `{"@graph": F, "@reverse": {"http://e/n": F}, "http://e/l": {"@list": F}, "http://e/q": []}`, where F is the one above
+-- the frame `{"@graph": F, "@reverse": {"http://e/n": F}, "http://e/l": {"@list": F}, "http://e/q":
+-- []}`, where F is the one above
 unfoldable pub at_each_place : Nested
 at_each_place =
     frame_map
     plain
-    (prop l (frame_map plain no_props nested.no_reverses no_graph (list_pattern_of pointed)) (prop q match_none no_props))
+    (prop l (frame_map plain no_props nested.no_reverses no_graph (list_pattern_of pointed))
+    (prop q match_none no_props))
     (reverse_prop n pointed nested.no_reverses)
     (in_graph pointed)
     node_frame

@@ -51,13 +51,15 @@ value_of_decimal = refl
 -- `{"@value": {}, "@language": ["de", "en"]}` accepts its languages
 pub language_of_english :
     accepts_literal
-    (parts part.Any part.Absent (part.OneOf (scalar.Text (codes "de") ∷ scalar.Text (codes "en") ∷ []))) in_english
+    (parts part.Any part.Absent
+    (part.OneOf (scalar.Text (codes "de") ∷ scalar.Text (codes "en") ∷ []))) in_english
     ≡ true
 unfolding in_english xsd_string rdf_lang_string
 language_of_english = refl
 
 pub language_of_plain :
-    accepts_literal (parts part.Any part.Absent (part.OneOf (scalar.Text (codes "en") ∷ []))) in_plain ≡ false
+    accepts_literal (parts part.Any part.Absent (part.OneOf (scalar.Text (codes "en") ∷ [])))
+    in_plain ≡ false
 unfolding in_plain xsd_string
 language_of_plain = refl
 
@@ -72,7 +74,8 @@ datatype_of_plain = refl
 
 -- a truth value of a pattern accepts nothing
 pub truth_of_decimal :
-    accepts_literal (parts (part.OneOf (scalar.Bool true ∷ [])) part.Any part.Absent) in_decimal ≡ false
+    accepts_literal (parts (part.OneOf (scalar.Bool true ∷ [])) part.Any part.Absent) in_decimal
+    ≡ false
 unfolding in_decimal decimal_type xsd_string
 truth_of_decimal = refl
 
@@ -101,12 +104,15 @@ listing kind = form plain (prop l (frame_map plain no_props no_reverses no_graph
 pub item_accepted :
     outcome_in with_list (listing (list_pattern_of (form (named b) no_props))) Merged a
     ≡ matched (output a [] ((l, list_entry (entries_of (node_entry (bare b) ∷ [])) ∷ []) ∷ []))
-unfolding embed emit emit_all accepts kind_accepts prop_tests with_list a b l c1 c2 xsd_string rdf_type rdf_first rdf_rest rdf_nil rdf_list
+unfolding embed emit emit_all accepts kind_accepts prop_tests with_list a b l c1 c2 xsd_string
+    rdf_type rdf_first rdf_rest rdf_nil rdf_list
 item_accepted = refl
 
 -- a list without an item that the item pattern accepts isn't accepted
-pub no_item_accepted : outcome_in with_list (listing (list_pattern_of (form (named a) no_props))) Merged a ≡ no_match
-unfolding embed emit emit_all accepts kind_accepts prop_tests with_list a b l c1 c2 xsd_string rdf_type rdf_first rdf_rest rdf_nil rdf_list
+pub no_item_accepted :
+    outcome_in with_list (listing (list_pattern_of (form (named a) no_props))) Merged a ≡ no_match
+unfolding embed emit emit_all accepts kind_accepts prop_tests with_list a b l c1 c2 xsd_string
+    rdf_type rdf_first rdf_rest rdf_nil rdf_list
 no_item_accepted = refl
 
 -- without an item pattern all items are output
@@ -115,5 +121,6 @@ pub all_items_accepted :
     ≡ matched
     (output a []
     ((l, list_entry (entries_of (literal_entry (string (codes "1")) ∷ node_entry (bare b) ∷ [])) ∷ []) ∷ []))
-unfolding embed emit emit_all accepts kind_accepts prop_tests with_list a b l c1 c2 xsd_string rdf_type rdf_first rdf_rest rdf_nil rdf_list
+unfolding embed emit emit_all accepts kind_accepts prop_tests with_list a b l c1 c2 xsd_string
+    rdf_type rdf_first rdf_rest rdf_nil rdf_list
 all_items_accepted = refl

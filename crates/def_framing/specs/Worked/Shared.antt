@@ -26,7 +26,8 @@ pub first_shares :
     ≡ matched
     (output a []
     ((p, node_entry (output x [] ((q, literal_entry (string (codes "1")) ∷ []) ∷ [])) ∷ []) ∷ []))
-unfolding embed emit emit_all accepts kind_accepts prop_tests shared with_p a b x p q xsd_string rdf_type rdf_first rdf_rest rdf_nil rdf_list
+unfolding embed emit emit_all accepts kind_accepts prop_tests shared with_p a b x p q xsd_string
+    rdf_type rdf_first rdf_rest rdf_nil rdf_list
 first_shares = refl
 
 pub second_shares :
@@ -34,11 +35,13 @@ pub second_shares :
     ≡ matched
     (output b []
     ((p, node_entry (output x [] ((q, literal_entry (string (codes "1")) ∷ []) ∷ [])) ∷ []) ∷ []))
-unfolding embed emit emit_all accepts kind_accepts prop_tests shared with_p a b x p q xsd_string rdf_type rdf_first rdf_rest rdf_nil rdf_list
+unfolding embed emit emit_all accepts kind_accepts prop_tests shared with_p a b x p q xsd_string
+    rdf_type rdf_first rdf_rest rdf_nil rdf_list
 second_shares = refl
 
 pub blank_unmatched : outcome_in shared with_p Merged x ≡ no_match
-unfolding embed emit emit_all accepts kind_accepts prop_tests shared with_p a b x p q xsd_string rdf_type rdf_first rdf_rest rdf_nil rdf_list
+unfolding embed emit emit_all accepts kind_accepts prop_tests shared with_p a b x p q xsd_string
+    rdf_type rdf_first rdf_rest rdf_nil rdf_list
 blank_unmatched = refl
 
 -- one of the two references goes, and its node with it
@@ -50,11 +53,13 @@ pub first_alone :
     ≡ matched
     (output a []
     ((p, node_entry (output x [] ((q, literal_entry (string (codes "1")) ∷ []) ∷ [])) ∷ []) ∷ []))
-unfolding embed emit emit_all accepts kind_accepts prop_tests unshared with_p a b x p q xsd_string rdf_type rdf_first rdf_rest rdf_nil rdf_list
+unfolding embed emit emit_all accepts kind_accepts prop_tests unshared with_p a b x p q xsd_string
+    rdf_type rdf_first rdf_rest rdf_nil rdf_list
 first_alone = refl
 
 pub second_gone : outcome_in unshared with_p Merged b ≡ not_key
-unfolding embed emit emit_all accepts kind_accepts prop_tests unshared with_p a b x p q xsd_string rdf_type rdf_first rdf_rest rdf_nil rdf_list
+unfolding embed emit emit_all accepts kind_accepts prop_tests unshared with_p a b x p q xsd_string
+    rdf_type rdf_first rdf_rest rdf_nil rdf_list
 second_gone = refl
 
 -- a node refers twice to another, and a third node refers to it too
@@ -68,14 +73,20 @@ pub once_in_a_tree :
     ((p, node_entry (output c [] ((n, literal_entry (string (codes "c")) ∷ []) ∷ [])) ∷ [])
     ∷ (q, node_entry (bare c) ∷ [])
     ∷ []))
-unfolding embed emit emit_all accepts kind_accepts prop_tests twice with_p a b c n p q xsd_string rdf_type rdf_first rdf_rest rdf_nil rdf_list
+unfolding embed emit emit_all accepts kind_accepts prop_tests twice with_p a b c n p q xsd_string
+    rdf_type rdf_first rdf_rest rdf_nil rdf_list
 once_in_a_tree = refl
 
 pub again_in_another :
     outcome_in twice with_p Merged b
     ≡ matched
-    (output b [] ((p, node_entry (output c [] ((n, literal_entry (string (codes "c")) ∷ []) ∷ [])) ∷ []) ∷ []))
-unfolding embed emit emit_all accepts kind_accepts prop_tests twice with_p a b c n p q xsd_string rdf_type rdf_first rdf_rest rdf_nil rdf_list
+    (output b [] ((
+      p,
+      node_entry (output c [] ((n, literal_entry (string (codes "c")) ∷ []) ∷ [])) ∷ [],
+    )
+    ∷ []))
+unfolding embed emit emit_all accepts kind_accepts prop_tests twice with_p a b c n p q xsd_string
+    rdf_type rdf_first rdf_rest rdf_nil rdf_list
 again_in_another = refl
 
 -- the frame `{"@embed": "@always"}`
@@ -88,12 +99,16 @@ cycle = of_dataset (quad a p b ∷ quad b p a ∷ [])
 
 pub cycle_ends :
     outcome_in cycle always Merged a
-    ≡ matched (output a [] ((p, node_entry (output b [] ((p, node_entry (bare a) ∷ []) ∷ [])) ∷ []) ∷ []))
-unfolding embed emit emit_all accepts kind_accepts prop_tests cycle always a b p rdf_type rdf_first rdf_rest rdf_nil rdf_list
+    ≡ matched
+    (output a [] ((p, node_entry (output b [] ((p, node_entry (bare a) ∷ []) ∷ [])) ∷ []) ∷ []))
+unfolding embed emit emit_all accepts kind_accepts prop_tests cycle always a b p rdf_type rdf_first
+    rdf_rest rdf_nil rdf_list
 cycle_ends = refl
 
 pub cycle_ends_too :
     outcome_in cycle always Merged b
-    ≡ matched (output b [] ((p, node_entry (output a [] ((p, node_entry (bare b) ∷ []) ∷ [])) ∷ []) ∷ []))
-unfolding embed emit emit_all accepts kind_accepts prop_tests cycle always a b p rdf_type rdf_first rdf_rest rdf_nil rdf_list
+    ≡ matched
+    (output b [] ((p, node_entry (output a [] ((p, node_entry (bare b) ∷ []) ∷ [])) ∷ []) ∷ []))
+unfolding embed emit emit_all accepts kind_accepts prop_tests cycle always a b p rdf_type rdf_first
+    rdf_rest rdf_nil rdf_list
 cycle_ends_too = refl

@@ -13,6 +13,8 @@ mod registering;
 mod state;
 #[cfg(test)]
 mod tests;
+#[cfg(test)]
+mod turn_tests;
 mod turns;
 
 pub use core_desk::CoreDesk;

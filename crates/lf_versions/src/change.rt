@@ -31,9 +31,12 @@ impl Eq for Change {
 }
 
 impl Hash for Change {
-    ghost hash_input = { λ change. fed.str (term_text change.quad.subject) ++ fed.str (term_text change.quad.object) };
+    ghost hash_input = { λ change.
+        fed.str (term_text change.quad.subject) ++ fed.str (term_text change.quad.object) };
 
-    ghost respects_eq = { (same_Alike (λ change. fed.str (term_text change.quad.subject) ++ fed.str (term_text change.quad.object)) changes_decide).fed };
+    ghost respects_eq = { (same_Alike
+        (λ change. fed.str (term_text change.quad.subject) ++ fed.str (term_text change.quad.object))
+        changes_decide).fed };
 
     fn hash<H: Hasher>(&self, state: &mut H) {
         text_of(&self.quad.subject).hash(state);
@@ -41,6 +44,7 @@ impl Hash for Change {
     }
 }
 
+// The text by which a term is hashed.
 fn text_of(term: &Term) -> &str
     ensures { result.now ≡ term_text term.now }
 {

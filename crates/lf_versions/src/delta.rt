@@ -57,7 +57,8 @@ fn differs(alloc: Global, one: &Index, two: &Index, quad: &Quad) -> Result<bool,
 
 // Puts a quad that changed, unless it is there.
 fn put(alloc: Global, changes: &mut IndexSet<Change>, quad: &Quad) -> Result<(), Memory>
-    ensures { OnOk result (quads_of changes.new.keys ≡ put_once quad.now (quads_of changes.old.keys)) }
+    ensures { OnOk result (quads_of changes.new.keys
+        ≡ put_once quad.now (quads_of changes.old.keys)) }
 {
     let quad = quad.copy(alloc)?;
     changes.insert(Change { quad })?;

@@ -26,9 +26,11 @@ const MOST_COMMITS: u64 = 65_536;
 /// A version costs what its patch touches, and the roots of four orders.
 #[derive(Drop)]
 pub struct Version {
+    /// Its quads.
     index: Arc<Index>,
-    /// Under their numbers, counted from 0.
+    /// Its commits under their numbers, counted from 0.
     pub(crate) commits: PMap<u64, Arc<Commit>>,
+    /// How many commits there are.
     number: u64,
 }
 

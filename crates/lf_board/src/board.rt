@@ -25,6 +25,7 @@ use std::sync::ledger::Ledger;
 #[derive(Drop)]
 pub struct Board {
     home: HomeBoard,
+    /// The second handle of its document.
     handle: Option<Arc<Doc>>,
 }
 

@@ -21,6 +21,7 @@ use std::sync::ledger::Ledger;
 #[derive(Drop)]
 pub struct HomeBoard {
     frame: Frame,
+    /// What the frame came to over the version that it was turned to last.
     evaluated: Option<Evaluated>,
 }
 

@@ -11,7 +11,7 @@ use Rattle.def_histories.specs.Legal.{IsLegal}
 use Rattle.def_histories.proofs.LegalProofs.{allowed_is_legal}
 use Rattle.lf_frames.specs.FrameTexts.{is_frame}
 use Rattle.lf_desk.specs.CommitAnswer.{commit_answer, CommitAnswers, committed_by}
-use Rattle.lf_desk.specs.RegisterAnswer.{register_answer, registered_by, Answers}
+use Rattle.lf_desk.specs.RegisterAnswer.{register_answer, registered_by, RegisterAnswers}
 use Rattle.lf_desk.proofs.PatchAnswers as patches
 use Rattle.lf_desk.proofs.FrameAnswers as frames
 
@@ -27,7 +27,7 @@ legal_commit before after seat patch (Ok version) legal says entered =
 legal_commit before after seat patch (Err error) legal says entered = unchanged before after legal entered
 
 pub legal_register : (before after : List Operation) (seat : ℕ) (name text : List ℕ) (result : Result Bool RegisterErr)
-    → IsLegal is_frame before → Answers result (register_answer before name text)
+    → IsLegal is_frame before → RegisterAnswers result (register_answer before name text)
     → after ≡ before ++ registered_by seat name text result → IsLegal is_frame after
 legal_register before after seat name text (Ok true) legal says entered =
     subst (IsLegal is_frame) (sym entered)

@@ -13,19 +13,20 @@ use Rattle.lf_versions.specs.declared.error.VersionErr.TheVariants as v
 use Rattle.lf_desk.specs.declared.refusals.CommitErr.{CommitErr}
 use Rattle.lf_desk.specs.declared.refusals.CommitErr.TheVariants as c
 use Rattle.lf_desk.specs.declared.refusals.RegisterErr.{RegisterErr}
-use Rattle.lf_desk.specs.RegisterAnswer.{Fails, text_answer}
+use Rattle.lf_desk.specs.RegisterAnswer.{RegisterFails, text_answer}
 
 -- the frame of a text, or why it is refused
 abbrev pub Reads : FrameText → Result Frame RegisterErr → Type 0
 Reads told (Ok frame) = told ≡ accepted (frame_meaning frame)
-Reads told (Err error) = (limits : Result Bool RegisterErr) → Fails error (text_answer told limits)
+Reads told (Err error) =
+    (limits : Result Bool RegisterErr) → RegisterFails error (text_answer told limits)
 
 -- the frame of a text that is new under its name, none where it is live there already, or why it is
 -- refused
 abbrev pub Tries : FrameText → Result Bool RegisterErr → Result (Option Frame) RegisterErr → Type 0
 Tries told answer (Ok (Some frame)) = (answer ≡ Ok true) × (told ≡ accepted (frame_meaning frame))
 Tries told answer (Ok None) = answer ≡ Ok false
-Tries told answer (Err error) = Fails error answer
+Tries told answer (Err error) = RegisterFails error answer
 
 -- what the limits of the history say of a patch of so many bytes
 abbrev pub history_answer : List Operation → ℕ → Result (Unit {0}) CommitErr

@@ -5,7 +5,7 @@ use Rattle.lf_rdf.specs.declared.quad.Patch.{Patch}
 use Rattle.lf_desk.specs.declared.refusals.CommitErr.{CommitErr}
 use Rattle.lf_desk.specs.declared.refusals.RegisterErr.{RegisterErr}
 use Rattle.lf_desk.specs.CommitAnswer.{CommitFails, commit_answer}
-use Rattle.lf_desk.specs.RegisterAnswer.{Fails, register_answer}
+use Rattle.lf_desk.specs.RegisterAnswer.{RegisterFails, register_answer}
 use Rattle.lf_frames.specs.FrameTexts.{is_frame}
 use Rattle.lf_versions.specs.declared.commit.Commit as versions
 use Rattle.lf_board.specs.Boards.{unturned}
@@ -58,7 +58,11 @@ pub record FitsOn (history : List Operation) (ready : Prepares) : Type 0 where
 abbrev pub ReadiesCommit : List Operation → ℕ → Patch → Result Prepares CommitErr → Type 0
 ReadiesCommit history seat patch (Ok ready) =
     (commit_answer history patch ≡ Ok (suc (commits history)))
-    × ((ready ≡ record { operation = Commit seat patch; version = Some (commits_in history ++ record { seat = seat; patch = patch } ∷ []) })
+    × ((ready
+    ≡ record {
+      operation = Commit seat patch;
+      version = Some (commits_in history ++ record { seat = seat; patch = patch } ∷ []);
+    })
     × FitsOn history ready)
 ReadiesCommit history seat patch (Err error) = CommitFails error (commit_answer history patch)
 
@@ -71,4 +75,5 @@ ReadiesRegister history seat name text (Ok (Some ready)) =
     (register_answer history name text ≡ Ok true)
     × ((ready ≡ record { operation = Register seat name text; version = None })
     × FitsOn history ready)
-ReadiesRegister history seat name text (Err error) = Fails error (register_answer history name text)
+ReadiesRegister history seat name text (Err error) =
+    RegisterFails error (register_answer history name text)

@@ -18,7 +18,8 @@ pub enum Entry {
 /// Puts an entry at the end of a history that has a place for it.
 pub fn enter(history: &mut Vec<Entry>, entry: Entry)
     requires place { vec_len history.old < vec_capacity history.old }
-    ensures entered { operations history.new.items ≡ operations history.old.items ++ operation_of entry ∷ [] }
+    ensures entered { operations history.new.items
+        ≡ operations history.old.items ++ operation_of entry ∷ [] }
     ensures longer { length history.new.items ≡ length history.old.items + 1 }
     ensures room { vec_capacity history.old ≤ vec_capacity history.new }
 {

@@ -5,6 +5,7 @@ ghost use Rattle.std.specs.List.{position};
 ghost use Rattle.std.specs.Option.{option_copied};
 ghost use Rattle.lf_core.specs.Kept.{board_of, find_kept, has_name, updated, with_board, with_document, without_board, without_kept};
 
+use crate::limits::MOST_FRAMES;
 use def_histories::Live;
 use lf_base::{Memory, Text};
 use lf_board::HomeBoard;
@@ -16,9 +17,13 @@ use std::sync::Arc;
 /// document.
 #[derive(Drop)]
 pub struct Kept {
+    /// Its name, its text and the text's number, and the version of the published document.
     pub live: Live,
+    /// What the text means.
     pub frame: Frame,
+    /// None while a job has it.
     pub board: Option<HomeBoard>,
+    /// The published document, where there is one: that of the version that `live` tells.
     pub doc: Option<Arc<Doc>>,
 }
 
@@ -129,7 +134,8 @@ pub fn put_document(
     doc: Option<Arc<Doc>>,
     home: HomeBoard,
 )
-    ensures put { frames.new.items ≡ updated name.now (with_document version doc home) frames.old.items }
+    ensures put { frames.new.items
+        ≡ updated name.now (with_document version doc home) frames.old.items }
     ensures room { vec_capacity frames.new ≡ vec_capacity frames.old }
 {
     if let Some(place) = place_of(frames.as_slice(), name) {
@@ -140,12 +146,12 @@ pub fn put_document(
     }
 }
 
-/// No frames, with seats for 16.
+/// No frames, with seats for the most that may be live.
 pub fn no_frames(alloc: Global) -> Result<Vec<Kept>, Memory>
     ensures none { IfOk result (λ frames. frames.items ≡ []) }
     ensures seats { IfOk result (λ frames. 16 ≤ vec_capacity frames) }
 {
     let mut frames = Vec::new(alloc);
-    frames.reserve(16)?;
+    frames.reserve(MOST_FRAMES as usize)?;
     Ok(frames)
 }

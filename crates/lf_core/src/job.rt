@@ -14,11 +14,14 @@ use std::sync::ledger::Ledger;
 /// text number, the board and that version.
 #[derive(Drop)]
 pub struct Job {
+    /// The name of the frame that the board is of.
     pub(crate) frame: Text,
     /// One handle more of the name, for the entry of a publication.
     pub(crate) name: Text,
+    /// The number of the frame's text among all registrations, counted from 1.
     pub(crate) text_number: u64,
     pub(crate) board: Board,
+    /// The version that the board is to reach: the newest when it was taken.
     pub(crate) to: Version,
 }
 
@@ -32,7 +35,12 @@ impl Model for Job {
 
     ghost coded = { Prim.hlevel (codes, json.the_row.coded) };
 
-    ghost view = { λ j. record { name = j.frame; number = j.text_number; board = j.board; target = j.to } };
+    ghost view = { λ j. record {
+      name = j.frame;
+      number = j.text_number;
+      board = j.board;
+      target = j.to;
+    } };
 
     ghost invariant = { λ j. j.name ≡ j.frame };
 }

@@ -34,7 +34,8 @@ impl State {
     // Puts a commit and the version after it.
     fn put_commit(&mut self, commit: Arc<Commit>, version: Version)
         requires legal { IsLegal is_frame (self.old.history ++ committing (arc_value commit) ∷ []) }
-        requires version { version ≡ commits_in (self.old.history ++ committing (arc_value commit) ∷ []) }
+        requires version { version
+            ≡ commits_in (self.old.history ++ committing (arc_value commit) ∷ []) }
         requires place { 1 ≤ self.old.places }
         ensures entry { self.new.history ≡ self.old.history ++ committing (arc_value commit) ∷ [] }
         ensures boards { self.new.boards ≡ self.old.boards }

@@ -16,12 +16,17 @@ use std::sync::Arc;
 /// live frame another.
 #[derive(Drop)]
 pub struct NewFrame {
+    /// The number of the seat that registers it.
     pub seat: u64,
     pub name: Text,
     pub text: Text,
+    /// The live frame's handle of the name.
     pub live_name: Text,
+    /// The live frame's handle of the text.
     pub live_text: Text,
+    /// What the text means.
     pub frame: Frame,
+    /// A board of the frame that wasn't turned yet.
     pub board: HomeBoard,
 }
 

@@ -2,7 +2,8 @@
 //! `Desk::register`; made ready.
 ghost use Rattle.std.specs.Prelude.{◌≡◌, ◌≤◌, ◌+◌, ◌++◌, length, IfOk, OnOk};
 ghost use Rattle.lf_frames.specs.FrameTexts.{frame_text};
-ghost use Rattle.lf_desk.specs.RegisterAnswer.{Answers, text_answer, limits_answer, register_answer, registered_by};
+ghost use Rattle.def_histories.specs.Legal.{most_frame_bytes};
+ghost use Rattle.lf_desk.specs.RegisterAnswer.{RegisterAnswers, text_answer, limits_answer, register_answer, registered_by};
 ghost use Rattle.lf_core.specs.Checks.{Reads, Tries};
 ghost use Rattle.lf_core.specs.Held.{OnReady, RegistersBoard};
 ghost use Rattle.lf_core.specs.Prepared.{ReadiesRegister};
@@ -15,6 +16,7 @@ use lf_frames::{FrameTextErr, read_frame};
 use lf_model::Frame;
 use std::alloc::Global;
 
+// The most bytes of a frame's text.
 const MOST_FRAME_BYTES: usize = 65_536;
 
 // The frame of a text, or why it is refused.
@@ -37,7 +39,7 @@ fn tried_frame(
     name: &str,
     text: &str,
 ) -> Result<Option<Frame>, RegisterErr>
-    requires short { length text.now ≤ 65536 }
+    requires short { length text.now ≤ most_frame_bytes }
     ensures { Tries (frame_text text.now)
         (text_answer (frame_text text.now) (limits_answer state.now.history name.now text.now))
         result }
@@ -64,7 +66,8 @@ pub fn try_registration(
     name: &str,
     text: &str,
 ) -> Result<Option<Frame>, RegisterErr>
-    ensures { Tries (frame_text text.now) (register_answer state.now.history name.now text.now) result }
+    ensures { Tries (frame_text text.now)
+        (register_answer state.now.history name.now text.now) result }
 {
     if !is_frame_name(name.as_bytes()) {
         return Err(RegisterErr::BadName);
@@ -121,8 +124,10 @@ impl State {
         name: &str,
         text: &str,
     ) -> Result<bool, RegisterErr>
-        ensures answer { Answers result (register_answer self.old.history name.now text.now) }
-        ensures entry { self.new.history ≡ self.old.history ++ registered_by seat name.now text.now result }
+        ensures answer { RegisterAnswers result
+            (register_answer self.old.history name.now text.now) }
+        ensures entry { self.new.history
+            ≡ self.old.history ++ registered_by seat name.now text.now result }
         ensures boards { RegistersBoard self.old name.now text.now result self.new.boards }
         ensures places { self.old.places ≤ self.new.places }
     {

@@ -7,7 +7,7 @@ ghost use Rattle.def_scratch.specs.Scratch.{scratch_frame};
 ghost use Rattle.lf_frames.specs.FrameTexts.{is_frame};
 ghost use Rattle.def_histories.specs.declared.operation.Operation.TheVariants.{Retire};
 ghost use Rattle.def_histories.specs.History.{commits, live, registrations, text_bytes};
-ghost use Rattle.def_histories.specs.Legal.{IsLegal};
+ghost use Rattle.def_histories.specs.Legal.{IsLegal, most_text_bytes};
 ghost use Rattle.def_histories.specs.Replay.{newest_dataset};
 ghost use Rattle.lf_desk.specs.RegisterAnswer.{is_live_text, others};
 ghost use Rattle.lf_desk.specs.Looks.{Looks, Frames};
@@ -55,9 +55,15 @@ impl Model for State {
 
     ghost coded = { Prim.hlevel (codes, json.the_row.coded) };
 
-    ghost view = { λ s. record { history = operations s.history.items; boards = boards_of s.frames.items; places = s.places } };
+    ghost view = { λ s. record {
+      history = operations s.history.items;
+      boards = boards_of s.frames.items;
+      places = s.places;
+    } };
 
-    ghost invariant = { λ s. IsReplayed (operations s.history.items) s.newest s.frames.items s.registrations s.bytes s.places (vec_capacity s.history) (vec_capacity s.frames) };
+    ghost invariant = { λ s. IsReplayed (operations s.history.items)
+        s.newest s.frames.items s.registrations s.bytes s.places
+        (vec_capacity s.history) (vec_capacity s.frames) };
 }
 
 impl State {
@@ -123,7 +129,8 @@ impl State {
 
     /// The document of a frame over the newest version, from scratch.
     pub fn document(&self, alloc: Global, frame: &Frame) -> Result<Doc, Memory>
-        ensures { IfOk result (λ doc. doc ≡ scratch_frame frame.now (newest_dataset self.now.history)) }
+        ensures { IfOk result (λ doc.
+            doc ≡ scratch_frame frame.now (newest_dataset self.now.history)) }
     {
         Ok(frame_dataset(alloc, self.newest.index(), frame)?)
     }
@@ -177,7 +184,7 @@ impl State {
     #[tactic(auto, unfolding(def_histories::specs::Legal::most_text_bytes))]
     pub(crate) fn text_bytes(&self) -> u64
         ensures told { result ≡ text_bytes self.now.history }
-        ensures few { result ≤ 268435456 }
+        ensures few { result ≤ most_text_bytes }
     {
         self.bytes
     }

@@ -1,3 +1,4 @@
+//! A desk of one state: commits, registrations, retirements and looks, and each limit.
 use crate::{CoreDesk, State};
 use def_histories::{Operation, OperationList};
 use lf_base::{Memory, Text, TryCopy};
@@ -21,7 +22,7 @@ fn desk(alloc: Global) -> Result<CoreDesk, Memory> {
     Ok(CoreDesk::new(State::new(alloc)?, 1))
 }
 
-/// `<http://e/a> <http://e/p> "x" .`, or the same of a blank node with a label.
+// `<http://e/a> <http://e/p> "x" .`, or the same of a blank node with a label.
 fn quad(alloc: Global, blank: Option<&str>) -> Result<Quad, Memory> {
     let subject = match blank {
         Some(label) => Term::Blank(Text::of(alloc, label)?),
@@ -39,7 +40,7 @@ fn quad(alloc: Global, blank: Option<&str>) -> Result<Quad, Memory> {
     })
 }
 
-/// A patch of a line for each sign, of one quad.
+// A patch of a line for each sign, of one quad.
 fn patch(alloc: Global, signs: &[bool], blank: Option<&str>, bytes: u64) -> Result<Patch, Memory> {
     let mut lines = SignedList::new(alloc);
     for add in signs {

@@ -1,4 +1,5 @@
-//! Boards that go out and come home: a board is turned and published, and one whose text was registered anew is dropped.
+//! Boards that go out and come home: a board is turned and published, and one whose text was
+//! registered anew is dropped.
 ghost use Rattle.std.specs.Prelude.{◌≡◌, ◌<◌, ◌≤◌, ◌++◌, List};
 ghost use Rattle.def_histories.specs.declared.operation.Operation.{Operation};
 ghost use Rattle.lf_core.specs.Taken.{FitsHistory};
@@ -49,7 +50,8 @@ fn is_registered(alloc: Global, state: &mut State, text: &str) -> bool
     is_ok
 }
 
-// Takes the board of the frame whose turn is next, and registers a text under `a` before the board is turned and given back.
+// Takes the board of the frame whose turn is next, and registers a text under `a` before the board
+// is turned and given back.
 fn late_turn<L: Ledger>(
     alloc: Global,
     state: &mut State,

@@ -102,7 +102,8 @@ fn parts_of(alloc: Global, kept: &Kept, newest: &Version) -> Result<Parts, Memor
     ensures frame { IfOk result (λ parts. parts.frame ≡ kept.now.live.name) }
     ensures name { IfOk result (λ parts. parts.name ≡ kept.now.live.name) }
     ensures text_number { IfOk result (λ parts. parts.text_number ≡ kept.now.live.number) }
-    ensures handle { IfOk result (λ parts. HandlesBoard kept.now.board (option_map arc_value parts.handle)) }
+    ensures handle { IfOk result (λ parts.
+        HandlesBoard kept.now.board (option_map arc_value parts.handle)) }
     ensures to { IfOk result (λ parts. parts.to ≡ newest.now) }
 {
     let frame = kept.live.name.copy(alloc)?;

@@ -46,19 +46,19 @@ register_answer history name text =
     else text_answer (frame_text text) (limits_answer history name text)
 
 -- a call answered so, unless no memory was found
-abbrev pub Fails : RegisterErr → Result Bool RegisterErr → Type 0
-Fails r.Memory answer = Unit {0}
-Fails r.BadName answer = answer ≡ Err r.BadName
-Fails (r.FrameTooLong size) answer = answer ≡ Err (r.FrameTooLong size)
-Fails r.NotJson answer = answer ≡ Err r.NotJson
-Fails (r.Fractional path) answer = answer ≡ Err (r.Fractional path)
-Fails (r.Ld error) answer = answer ≡ Err (r.Ld error)
-Fails (r.TooManyFrames have would) answer = answer ≡ Err (r.TooManyFrames have would)
-Fails (r.HistoryFull of have limit) answer = answer ≡ Err (r.HistoryFull of have limit)
+abbrev pub RegisterFails : RegisterErr → Result Bool RegisterErr → Type 0
+RegisterFails r.Memory answer = Unit {0}
+RegisterFails r.BadName answer = answer ≡ Err r.BadName
+RegisterFails (r.FrameTooLong size) answer = answer ≡ Err (r.FrameTooLong size)
+RegisterFails r.NotJson answer = answer ≡ Err r.NotJson
+RegisterFails (r.Fractional path) answer = answer ≡ Err (r.Fractional path)
+RegisterFails (r.Ld error) answer = answer ≡ Err (r.Ld error)
+RegisterFails (r.TooManyFrames have would) answer = answer ≡ Err (r.TooManyFrames have would)
+RegisterFails (r.HistoryFull of have limit) answer = answer ≡ Err (r.HistoryFull of have limit)
 
-abbrev pub Answers : Result Bool RegisterErr → Result Bool RegisterErr → Type 0
-Answers (Ok fresh) answer = answer ≡ Ok fresh
-Answers (Err error) answer = Fails error answer
+abbrev pub RegisterAnswers : Result Bool RegisterErr → Result Bool RegisterErr → Type 0
+RegisterAnswers (Ok fresh) answer = answer ≡ Ok fresh
+RegisterAnswers (Err error) answer = RegisterFails error answer
 
 -- the entry that a registration makes: one where it is new
 abbrev pub registered_by : ℕ → List ℕ → List ℕ → Result Bool RegisterErr → List Operation

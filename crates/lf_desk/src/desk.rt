@@ -5,7 +5,7 @@ ghost use Rattle.def_histories.specs.History.{commits};
 ghost use Rattle.def_histories.specs.Legal.{IsLegal};
 ghost use Rattle.def_turns.specs.Turns.{still_live};
 ghost use Rattle.lf_frames.specs.FrameTexts.{is_frame};
-ghost use Rattle.lf_desk.specs.RegisterAnswer.{register_answer, Answers, registered_by};
+ghost use Rattle.lf_desk.specs.RegisterAnswer.{register_answer, RegisterAnswers, registered_by};
 ghost use Rattle.lf_desk.specs.CommitAnswer.{commit_answer, CommitAnswers, committed_by};
 ghost use Rattle.lf_desk.specs.Looks.{Looks, Frames};
 ghost use Rattle.lf_desk.specs.Calls.{IsCall, Retires, StaysAway, retired_by};
@@ -42,11 +42,13 @@ pub trait Desk {
     /// (268,435,456); `TooManyQuads` (400,000).
     fn commit(&mut self, alloc: Global, patch: Patch) -> Result<u64, CommitErr>
         ensures call { IsCall (alone self.old) (seat self.old) (history self.old) (history self.new)
-            (committed_by (seat self.old) patch result) (λ seen. CommitAnswers result (commit_answer seen patch)) }
+            (committed_by (seat self.old) patch result)
+            (λ seen. CommitAnswers result (commit_answer seen patch)) }
         ensures same_seat { seat self.new ≡ seat self.old }
         ensures same_alone { alone self.new ≡ alone self.old }
         ensures same_taken { taken self.new ≡ taken self.old }
-        ensures away { StaysAway (alone self.old) (history self.new) (away self.old) (away self.new) };
+        ensures away { StaysAway (alone self.old) (history self.new)
+            (away self.old) (away self.new) };
 
     /// Registers a frame's text under a name. Answers false where the text is live there already,
     /// and then makes no operation. `BadName` and `FrameTooLong` (65,536 bytes) come before that
@@ -56,11 +58,12 @@ pub trait Desk {
     fn register(&mut self, alloc: Global, name: &str, text: &str) -> Result<bool, RegisterErr>
         ensures call { IsCall (alone self.old) (seat self.old) (history self.old) (history self.new)
             (registered_by (seat self.old) name.now text.now result)
-            (λ seen. Answers result (register_answer seen name.now text.now)) }
+            (λ seen. RegisterAnswers result (register_answer seen name.now text.now)) }
         ensures same_seat { seat self.new ≡ seat self.old }
         ensures same_alone { alone self.new ≡ alone self.old }
         ensures same_taken { taken self.new ≡ taken self.old }
-        ensures away { StaysAway (alone self.old) (history self.new) (away self.old) (away self.new) };
+        ensures away { StaysAway (alone self.old) (history self.new)
+            (away self.old) (away self.new) };
 
     /// Ends a frame. Answers false exactly where no frame is live under the name, and then makes no
     /// operation.
@@ -70,7 +73,8 @@ pub trait Desk {
         ensures same_seat { seat self.new ≡ seat self.old }
         ensures same_alone { alone self.new ≡ alone self.old }
         ensures same_taken { taken self.new ≡ taken self.old }
-        ensures away { StaysAway (alone self.old) (history self.new) (away self.old) (away self.new) };
+        ensures away { StaysAway (alone self.old) (history self.new)
+            (away self.old) (away self.new) };
 
     /// The number of the newest version.
     fn newest(&mut self) -> u64
@@ -79,7 +83,8 @@ pub trait Desk {
         ensures same_seat { seat self.new ≡ seat self.old }
         ensures same_alone { alone self.new ≡ alone self.old }
         ensures same_taken { taken self.new ≡ taken self.old }
-        ensures away { StaysAway (alone self.old) (history self.new) (away self.old) (away self.new) };
+        ensures away { StaysAway (alone self.old) (history self.new)
+            (away self.old) (away self.new) };
 
     /// What stands at a name for a caller that needs a version: `Unknown` exactly where no frame is
     /// live under it, `Pending` exactly where its published version is none or below the needed
@@ -90,7 +95,8 @@ pub trait Desk {
         ensures same_seat { seat self.new ≡ seat self.old }
         ensures same_alone { alone self.new ≡ alone self.old }
         ensures same_taken { taken self.new ≡ taken self.old }
-        ensures away { StaysAway (alone self.old) (history self.new) (away self.old) (away self.new) };
+        ensures away { StaysAway (alone self.old) (history self.new)
+            (away self.old) (away self.new) };
 
     /// Frames the newest version from scratch and publishes nothing. `None` comes exactly where the
     /// name isn't live.
@@ -100,7 +106,8 @@ pub trait Desk {
         ensures same_seat { seat self.new ≡ seat self.old }
         ensures same_alone { alone self.new ≡ alone self.old }
         ensures same_taken { taken self.new ≡ taken self.old }
-        ensures away { StaysAway (alone self.old) (history self.new) (away self.old) (away self.new) };
+        ensures away { StaysAway (alone self.old) (history self.new)
+            (away self.old) (away self.new) };
 
     /// The history is legal.
     ghost legal: { (desk : Self) → IsLegal is_frame (history desk) };

@@ -3,6 +3,7 @@ ghost use Rattle.std.specs.Prelude.{◌≡◌};
 ghost use Rattle.std.specs.List.{list_all};
 ghost use Rattle.def_histories.specs.Legal.{is_name_byte, is_frame_name};
 
+// The most bytes of a name.
 const MOST_NAME: usize = 64;
 
 fn is_name_byte(byte: u8) -> bool

@@ -29,8 +29,10 @@ pub trait Rota: Desk {
     /// those that would wait if it hadn't been taken. It has the live text number, and is to reach
     /// the newest version.
     fn take(&mut self, alloc: Global) -> Result<Option<Self::Job>, Memory>
-        ensures call { IsCall (Self.alone self.old) (Self.seat self.old) (Self.history self.old) (Self.history self.new) []
-            (λ seen. TakesBy told (Self.alone self.old) seen (Self.away self.old) (Self.away self.new) (Self.taken self.old) (Self.taken self.new) result) }
+        ensures call { IsCall (Self.alone self.old) (Self.seat self.old) (Self.history self.old)
+            (Self.history self.new) []
+            (λ seen. TakesBy told (Self.alone self.old) seen (Self.away self.old)
+            (Self.away self.new) (Self.taken self.old) (Self.taken self.new) result) }
         ensures own { IfOk result (IsOwnIfSome meaning told (Self.history self.new)) }
         ensures same_seat { Self.seat self.new ≡ Self.seat self.old }
         ensures same_alone { Self.alone self.new ≡ Self.alone self.old };
@@ -54,10 +56,11 @@ pub trait Rota: Desk {
     /// published and the board is at home.
     fn give(&mut self, alloc: Global, job: Self::Job) -> Result<Turned, Memory>
         requires own { IsOwn (Self.history self.old) (meaning job) (told job) }
-        ensures call { IsCall (Self.alone self.old) (Self.seat self.old) (Self.history self.old) (Self.history self.new)
-            (given_entry result) (λ seen. Gives seen (told job) result) }
+        ensures call { IsCall (Self.alone self.old) (Self.seat self.old) (Self.history self.old)
+            (Self.history self.new) (given_entry result) (λ seen. Gives seen (told job) result) }
         ensures same_seat { Self.seat self.new ≡ Self.seat self.old }
         ensures same_alone { Self.alone self.new ≡ Self.alone self.old }
         ensures same_taken { Self.taken self.new ≡ Self.taken self.old }
-        ensures away { ComesBack (Self.alone self.old) (told job).number (Self.away self.old) (Self.away self.new) };
+        ensures away { ComesBack (Self.alone self.old) (told job).number
+            (Self.away self.old) (Self.away self.new) };
 }

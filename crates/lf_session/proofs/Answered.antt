@@ -7,7 +7,7 @@ use Rattle.def_patch_texts.specs.BadLine.{IsBadLine}
 use Rattle.lf_desk.specs.declared.refusals.RegisterErr.{RegisterErr}
 use Rattle.lf_desk.specs.declared.refusals.RegisterErr.TheVariants as r
 use Rattle.def_histories.specs.declared.operation.Operation.{Operation}
-use Rattle.lf_desk.specs.RegisterAnswer.{register_answer, Answers, registered_by}
+use Rattle.lf_desk.specs.RegisterAnswer.{register_answer, RegisterAnswers, registered_by}
 use Rattle.lf_session.specs.declared.request.Refusal.{Refusal}
 use Rattle.lf_session.specs.declared.request.Asked.{Asked}
 use Rattle.lf_session.specs.declared.request.Asked.TheVariants as asks
@@ -21,13 +21,13 @@ refused-told seat need name body asked seen why reply is e =
     subst (λ a. IsAnswered seat name body need a seen seen [] reply) (sym is) (refl, refl, e)
 
 pub put-told : (seat need : ℕ) (name body : List ℕ) (seen : List Operation) (result : Result Bool RegisterErr) (reply : Reply)
-    → IsUtf8 body → Answers result (register_answer seen name body) → reply ≡ register_reply name result
+    → IsUtf8 body → RegisterAnswers result (register_answer seen name body) → reply ≡ register_reply name result
     → IsAnswered seat name body need asks.Put seen seen (registered_by seat name body result) reply
 put-told seat need name body seen result reply utf8 says e = (refl, (result, inl (utf8, says), refl, e))
 
 -- a refusal may be lost where there is no memory to tell it
 pub put-refused : (seat need : ℕ) (name body : List ℕ) (seen : List Operation) (error : RegisterErr) (reply : Reply)
-    → IsUtf8 body → Answers (Err error) (register_answer seen name body)
+    → IsUtf8 body → RegisterAnswers (Err error) (register_answer seen name body)
     → (reply ≡ register_reply name (Err error)) ⊎ (reply ≡ out_of_memory)
     → IsAnswered seat name body need asks.Put seen seen [] reply
 put-refused seat need name body seen error reply utf8 says (inl e) = put-told seat need name body seen (Err error) reply utf8 says e

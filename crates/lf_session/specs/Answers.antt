@@ -14,7 +14,7 @@ use Rattle.lf_model.specs.declared.desk.FramedNow.{FramedNow}
 use Rattle.def_histories.specs.declared.operation.Operation.{Operation}
 use Rattle.def_histories.specs.History.{commits}
 use Rattle.def_histories.specs.Legal.{is_frame_name, most_frame_bytes}
-use Rattle.lf_desk.specs.RegisterAnswer.{register_answer, Answers, registered_by}
+use Rattle.lf_desk.specs.RegisterAnswer.{register_answer, RegisterAnswers, registered_by}
 use Rattle.lf_desk.specs.CommitAnswer.{commit_answer, CommitAnswers, committed_by}
 use Rattle.def_turns.specs.declared.turned.Turned.{Turned}
 use Rattle.lf_desk.specs.Looks.{Looks, Frames}
@@ -35,7 +35,7 @@ no_text_answer name body =
 -- a registration answers so
 abbrev pub Registers : List Operation → List ℕ → List ℕ → Result Bool RegisterErr → Type 0
 Registers seen name body result =
-    (IsUtf8 body × Answers result (register_answer seen name body))
+    (IsUtf8 body × RegisterAnswers result (register_answer seen name body))
     ⊎ ((IsUtf8 body → ⊥) × (result ≡ no_text_answer name body))
 
 -- the body is a patch text, which states these lines

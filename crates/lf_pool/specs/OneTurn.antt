@@ -19,7 +19,8 @@ abbrev pub Answered : Job → List Operation → List Operation → Result Turne
 Answered job given_at after (Ok turned) =
     (after ≡ given_at ++ entry_of turned)
     × ((turned ≡ given_back given_at job.name job.number (Some (length job.target)))
-    ⊎ ((turned ≡ given_back given_at job.name job.number (board_number job.board)) × (kind_of turned ≡ Publishes)))
+    ⊎ ((turned ≡ given_back given_at job.name job.number (board_number job.board))
+    × (kind_of turned ≡ Publishes)))
 Answered job given_at after (Err refused) = after ≡ given_at
 
 -- a job was worked on and given back

@@ -20,7 +20,8 @@ pub fn one_turn<R: Rota, L: Ledger>(
     rota: &mut R,
     steps: &mut Steps<L>,
 ) -> Result<Turned, Memory>
-    ensures turn { IsTurn (R.alone rota.old) (R.seat rota.old) (R.history rota.old) (R.history rota.new)
+    ensures turn { IsTurn (R.alone rota.old) (R.seat rota.old)
+        (R.history rota.old) (R.history rota.new)
         (R.away rota.old) (R.away rota.new) (R.taken rota.old) (R.taken rota.new) result }
     ensures same_seat { R.seat rota.new ≡ R.seat rota.old }
     ensures same_alone { R.alone rota.new ≡ R.alone rota.old }
@@ -39,7 +40,8 @@ fn turn_job<R: Rota, L: Ledger>(
     steps: &mut Steps<L>,
 ) -> Result<Turned, Memory>
     requires own { IsOwn (R.history rota.old) (R.meaning job) (R.told job) }
-    ensures given { IsGiven (R.alone rota.old) (R.seat rota.old) (R.history rota.old) (R.history rota.new)
+    ensures given { IsGiven (R.alone rota.old) (R.seat rota.old)
+        (R.history rota.old) (R.history rota.new)
         (R.away rota.old) (R.away rota.new) (R.told job) result }
     ensures same_seat { R.seat rota.new ≡ R.seat rota.old }
     ensures same_alone { R.alone rota.new ≡ R.alone rota.old }
@@ -55,7 +57,8 @@ fn turn_job<R: Rota, L: Ledger>(
 // Gives a job back that found no memory to be worked on.
 fn give_older<R: Rota>(alloc: Global, rota: &mut R, job: R::Job) -> Result<Turned, Memory>
     requires own { IsOwn (R.history rota.old) (R.meaning job) (R.told job) }
-    ensures given { IsGiven (R.alone rota.old) (R.seat rota.old) (R.history rota.old) (R.history rota.new)
+    ensures given { IsGiven (R.alone rota.old) (R.seat rota.old)
+        (R.history rota.old) (R.history rota.new)
         (R.away rota.old) (R.away rota.new) (R.told job) result }
     ensures same_seat { R.seat rota.new ≡ R.seat rota.old }
     ensures same_alone { R.alone rota.new ≡ R.alone rota.old }

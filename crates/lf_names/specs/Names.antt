@@ -7,6 +7,13 @@ use Rattle.lf_model.specs.declared.desk.Counted.{Counted}
 use Rattle.lf_model.specs.declared.desk.Counted.TheVariants as counted
 use Rattle.lf_model.specs.declared.document.Limit.{Limit}
 use Rattle.lf_model.specs.declared.document.Limit.TheVariants as limits
+use Rattle.def_framing.specs.Results.{item_limit}
+use Rattle.def_framing.specs.Outcome.{depth_limit}
+use Rattle.def_documents.specs.Document.{most_items, most_bytes}
+
+-- how many bytes such a word has at most
+abbrev pub longest_word : ℕ
+longest_word = 20
 
 -- what is wrong with a line of a patch text
 unfoldable pub kind_name : LineKind → List ℕ
@@ -29,8 +36,9 @@ limit_name limits.Depth = codes "depth"
 limit_name limits.DocumentItems = codes "document items"
 limit_name limits.DocumentBytes = codes "document bytes"
 
+-- its number
 unfoldable pub limit_number : Limit → ℕ
-limit_number limits.TreeItems = 65536
-limit_number limits.Depth = 256
-limit_number limits.DocumentItems = 262144
-limit_number limits.DocumentBytes = 33554432
+limit_number limits.TreeItems = item_limit
+limit_number limits.Depth = depth_limit
+limit_number limits.DocumentItems = most_items
+limit_number limits.DocumentBytes = most_bytes

@@ -1,16 +1,23 @@
 //! The words themselves. The replies of a session and the printed texts of the commands take them
 //! from here.
 ghost use Rattle.std.specs.Prelude.{◌≡◌, ◌≤◌, length};
-ghost use Rattle.lf_names.specs.Names.{kind_name, counted_name, limit_name, limit_number};
+ghost use Rattle.lf_names.specs.Names.{kind_name, counted_name, limit_name, limit_number, longest_word};
 
+use def_documents::{byte_limit, item_limit};
 use def_patch_texts::LineKind;
 use lf_model::{Counted, Limit};
+
+/// The most items of the tree of one node.
+const MOST_TREE_ITEMS: u64 = 65_536;
+
+/// The most nodes on a path of a tree.
+const DEEPEST: u64 = 256;
 
 /// What is wrong with a line of a patch text.
 #[tactic(auto, unfolding(crate::specs::Names::kind_name))]
 pub fn kind_name(kind: LineKind) -> &'static str
     ensures name { result.now ≡ kind_name kind }
-    ensures short { length result.now ≤ 20 }
+    ensures short { length result.now ≤ longest_word }
 {
     match kind {
         LineKind::Syntax => "syntax",
@@ -25,7 +32,7 @@ pub fn kind_name(kind: LineKind) -> &'static str
 #[tactic(auto, unfolding(crate::specs::Names::counted_name))]
 pub fn counted_name(of: Counted) -> &'static str
     ensures name { result.now ≡ counted_name of }
-    ensures short { length result.now ≤ 20 }
+    ensures short { length result.now ≤ longest_word }
 {
     match of {
         Counted::Commits => "commits",
@@ -38,7 +45,7 @@ pub fn counted_name(of: Counted) -> &'static str
 #[tactic(auto, unfolding(crate::specs::Names::limit_name))]
 pub fn limit_name(limit: Limit) -> &'static str
     ensures name { result.now ≡ limit_name limit }
-    ensures short { length result.now ≤ 20 }
+    ensures short { length result.now ≤ longest_word }
 {
     match limit {
         Limit::TreeItems => "tree items",
@@ -54,9 +61,9 @@ pub fn limit_number(limit: Limit) -> u64
     ensures { result ≡ limit_number limit }
 {
     match limit {
-        Limit::TreeItems => 65_536,
-        Limit::Depth => 256,
-        Limit::DocumentItems => 262_144,
-        Limit::DocumentBytes => 33_554_432,
+        Limit::TreeItems => MOST_TREE_ITEMS,
+        Limit::Depth => DEEPEST,
+        Limit::DocumentItems => item_limit(),
+        Limit::DocumentBytes => byte_limit(),
     }
 }

@@ -9,4 +9,4 @@ mod tests;
 
 pub use error::FrameTextErr;
 pub use laws::{accepts_frames, documents_are_scratch, read_frames_give_documents};
-pub use read::read_frame;
+pub use read::{MOST_FRAME_BYTES, read_frame};

@@ -12,6 +12,9 @@ use lf_json::{JsonErr, read_json};
 use lf_model::{Frame, Json};
 use std::alloc::Global;
 
+/// The most bytes of a frame's text. Who takes a text tests its length before it is read.
+pub const MOST_FRAME_BYTES: usize = 65_536;
+
 // The frame that a value states.
 fn frame_from(alloc: Global, json: &Json) -> Result<Frame, FrameTextErr>
     ensures told { Tells (of_meaning (frame_of (json_data json.now))) result }
@@ -27,7 +30,11 @@ fn frame_from(alloc: Global, json: &Json) -> Result<Frame, FrameTextErr>
 /// The frame that a text means, or the first condition by which it is none. Its maps name
 /// sub-frames by larger numbers than their own. The cost grows with the length of the text as that
 /// of `read_json` and of `expand_frame` do.
-#[tactic(auto, using(crate::proofs::Told::told_not_json, crate::proofs::Told::told_fractional, crate::proofs::Told::told_value))]
+#[tactic(auto, using(
+    crate::proofs::Told::told_not_json,
+    crate::proofs::Told::told_fractional,
+    crate::proofs::Told::told_value
+))]
 pub fn read_frame(alloc: Global, bytes: &[u8]) -> Result<Frame, FrameTextErr>
     ensures told { Tells (frame_text bytes.now) result }
     ensures numbers { IfOk result (λ frame. NamesLargerNumbers frame.nodes) }

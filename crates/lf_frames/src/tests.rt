@@ -1,3 +1,4 @@
+//! Texts that are frames, and texts that are none, each with its reason.
 use crate::{FrameTextErr, read_frame};
 use std::alloc::Global;
 use std::test::Fail;

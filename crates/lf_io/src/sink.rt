@@ -36,7 +36,7 @@ pub trait Sink {
 #[tactic(auto, using(crate::proofs::Told::appended_nothing, crate::proofs::Told::appended_next, crate::proofs::Told::appended_whole))]
 pub fn write_all<K: Sink>(sink: &mut K, bytes: &[u8]) -> Result<(), Failed>
     ensures written { OnOk result (K.held sink.new ≡ appended (K.held sink.old) bytes.now) }
-    ensures cut_short { OnErr result ((n : ℕ) × (n < length bytes.now)
+    ensures cut { OnErr result ((n : ℕ) × (n < length bytes.now)
         × (K.held sink.new ≡ appended (K.held sink.old) (take n bytes.now))) }
     ensures cause { K.faults sink.new ≡ count_after (K.faults sink.old) result }
 {

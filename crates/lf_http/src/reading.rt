@@ -55,7 +55,8 @@ fn parse(bytes: &[u8], lines: &mut [HeaderSpan]) -> Result<Option<RequestSpans>,
     requires within { length bytes.now ≤ longest_head }
     ensures room { length lines.new ≡ most_lines }
     ensures whole { IfOk result (λ o. IfSome o (λ spans. IsRequestOf bytes.now lines.new spans)) }
-    ensures within { IfOk result (λ o. IfSome o (λ spans. IsRequestWithin bytes.now lines.new spans)) }
+    ensures within { IfOk result (λ o. IfSome o (λ spans.
+        IsRequestWithin bytes.now lines.new spans)) }
     ensures open { result ≡ Ok None → IsOpen bytes.now }
     ensures more { result ≡ Ok None → length bytes.now < longest_head }
     ensures refused { (left : Option (List ℕ)) → IfErr result (λ e. LacksHead bytes.now left e) }

@@ -12,6 +12,7 @@ use Rattle.lf_model.specs.declared.document.Limit.{Limit}
 use Rattle.lf_model.specs.declared.document.Limit.TheVariants as limits
 use Rattle.lf_model.specs.declared.error.LdError.{LdError}
 use Rattle.lf_model.specs.declared.error.LdError.TheVariants.{CollidingKeywords, CyclicIriMapping, InvalidEmbedValue, InvalidIdValue, InvalidReverseValue, InvalidVersionValue, InvalidContainerMapping, InvalidDefaultLanguage, InvalidFrame, InvalidIriMapping, InvalidKeywordAlias, InvalidLanguageMapping, InvalidLocalContext, InvalidPrefixValue, InvalidReverseProperty, InvalidTermDefinition, InvalidTypeMapping, InvalidTypeValue, InvalidValueObject, InvalidVocabMapping, KeywordRedefinition, LoadingRemoteContextFailed, IriConfusedWithPrefix}
+use Rattle.def_documents.specs.Document.{most_items, most_bytes}
 use Rattle.def_histories.specs.Legal.{is_frame_name, is_name_byte, most_name}
 use Rattle.lf_session.specs.Bodies.{error_body, frame_body, version_body, number_or_null, pending_body, bad_line_body, frame_too_long_body, too_many_body, history_full_body, fractional_body, limit_body, idle_body, published_body, home_body, superseded_body}
 use Rattle.lf_names.specs.Names.{kind_name, counted_name, limit_name, limit_number}
@@ -203,7 +204,7 @@ fractional-json path = refl
 over-json : (limit : Limit)
     → limit_body limit
     ≡ json_object (text_member (codes "error") (codes "document limit") ∷ text_member (codes "limit") (limit_name limit) ∷ number_member (codes "number") (limit_number limit) ∷ [])
-unfolding limit_body limit_name limit_number
+unfolding limit_body limit_name limit_number most_items most_bytes
 over-json limits.TreeItems = refl
 over-json limits.Depth = refl
 over-json limits.DocumentItems = refl

@@ -11,7 +11,7 @@ use Rattle.lf_http.specs.declared.head.Head.{Head}
 use Rattle.lf_http.specs.declared.head.HeadErr.{HeadErr}
 use Rattle.lf_http.specs.declared.head.HeadErr.TheVariants as h
 use Rattle.lf_http.specs.Judge.{Request, request_of, judged, is_bad, needs_length, told_length, has_line, longest_body}
-use Rattle.lf_http.specs.Reading.{IsOpen, LacksHead, IsRefused}
+use Rattle.lf_http.specs.Reading.{IsOpen, LacksHead, IsRefused, longest_head, most_lines}
 use Rattle.lf_http.proofs.Found.{nothing_read, found-refused}
 use Rattle.lf_session.specs.Replies.{Reply, refusal}
 use Rattle.lf_session.specs.Session.{IsBodyCut}
@@ -36,7 +36,7 @@ shortest-is = record {
 shortest-read : ReadsRequest ([] ++ print_request shortest) shortest []
 shortest-read = (shortest-is, sym (append-nil (print_request shortest)))
 
-no_bytes : (n : ℕ) → n ≡ 0 → n ≡ 16384 → ⊥
+no_bytes : (n : ℕ) → n ≡ 0 → n ≡ longest_head → ⊥
 no_bytes n none some = omega arith
 
 -- no bytes are no cause to refuse a head
@@ -45,7 +45,7 @@ nothing_lacks h.ReadFault reply is lacks = cc
 nothing_lacks h.CutShort reply is lacks = lacks.0 refl
 nothing_lacks h.TooLarge reply is lacks = over lacks
   where
-    over : ((length {A = ℕ} [] ≡ 16384) × IsOpen []) ⊎ (RequestExceeds 64 [] × RequestOverflows 64 []) → ⊥
+    over : ((length {A = ℕ} [] ≡ longest_head) × IsOpen []) ⊎ (RequestExceeds most_lines [] × RequestOverflows most_lines []) → ⊥
     over (inl full) = no_bytes 0 refl full.0
     over (inr many) = let lines : 64 < 0 = many.1 (print_request shortest) shortest [] shortest-read in omega arith
 nothing_lacks h.BadHead reply is lacks = lacks (print_request shortest) shortest [] shortest-read
@@ -117,7 +117,7 @@ not_large request is =
     (λ e3. from_cond (has_line request (codes "expect")) h.Expectation _ e3 (λ e4. cc) (λ e4. cc))))
 
 lacks-in_head : (k : RequestHead) (rest more : List ℕ) (e : HeadErr) (reply : Reply) → IsRequestHead k
-    → length (print_request k) ≤ 16384 → length k.fields ≤ 64 → print_request k ≡ rest ++ more → refusal e ≡ Some reply
+    → length (print_request k) ≤ longest_head → length k.fields ≤ most_lines → print_request k ≡ rest ++ more → refusal e ≡ Some reply
     → LacksHead rest (Some more) e → ⊥
 lacks-in_head k rest more h.ReadFault reply valid short few is says lacks = cc
 lacks-in_head k rest more h.CutShort reply valid short few is says lacks = cc

@@ -17,6 +17,7 @@ use Rattle.lf_pool.specs.OneTurn.{IsMade, IsNone, IsTurn}
 use Rattle.lf_pool.proofs.Answering.{given_name, name_of}
 use Rattle.lf_pool.proofs.Lone.{lone_turns_publish}
 use Rattle.lf_session.specs.declared.request.Asked.TheVariants as asks
+use Rattle.lf_session.specs.Bodies.{text_room}
 use Rattle.lf_session.specs.Boards.{StaysOut, boards_of}
 use Rattle.lf_session.specs.Replies.{Reply, turn_reply}
 use Rattle.lf_session.specs.Steps.{HasShortName, IsStep}
@@ -93,9 +94,9 @@ turn-out alone seat before after away away_after taken taken_after result turn l
 
 made-short : (alone : Bool) (seat : ℕ) (before after : List Operation) (away away_after : List ℕ) (taken taken_after : Option (List ℕ))
     (turned : Turned) (name : List ℕ) → IsMade alone seat before after away away_after taken taken_after (Ok turned) → name_of turned ≡ name
-    → length name ≤ 64
+    → length name ≤ text_room
 made-short alone seat before after away away_after taken taken_after turned name made is =
-    subst (λ (n : List ℕ). length n ≤ 64) named (short-name made.job.name (live_is_named is_frame made.taken_at made.job.name made.is.frame taken_legal made.is.live).1)
+    subst (λ (n : List ℕ). length n ≤ text_room) named (short-name made.job.name (live_is_named is_frame made.taken_at made.job.name made.is.frame taken_legal made.is.live).1)
   where
     given_legal : IsLegal is_frame made.given.given_at
     given_legal = prefix_is_legal is_frame made.given.given_at (entry_of turned)

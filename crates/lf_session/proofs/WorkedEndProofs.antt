@@ -7,6 +7,7 @@ use Rattle.httparse.proofs.GrammarLemmas.{request_unique}
 use Rattle.lf_http.specs.declared.head.HeadErr.{HeadErr}
 use Rattle.lf_http.specs.Judge.{method_of, target_of, request_of, judged}
 use Rattle.lf_frames.specs.FrameTexts.{is_frame}
+use Rattle.lf_http.specs.Reading.{most_lines}
 use Rattle.lf_session.specs.ReplyCases.{replies_open}
 use Rattle.lf_session.specs.Boards.{no_boards}
 use Rattle.lf_session.specs.Exchanges.{IsExchange}
@@ -80,7 +81,7 @@ patch-is = record {
 }
 
 -- the refusal of a whole head with few lines
-first-refusal : (bytes : List ℕ) (k : RequestHead) (rest : List ℕ) (e : HeadErr) → ReadsRequest bytes k rest → length k.fields ≤ 64
+first-refusal : (bytes : List ℕ) (k : RequestHead) (rest : List ℕ) (e : HeadErr) → ReadsRequest bytes k rest → length k.fields ≤ most_lines
     → judged (request_of k) ≡ Err e → IsFirstRefusal bytes e
 first-refusal bytes k rest e is few why = record {
   many = λ h more reads lines.

@@ -93,11 +93,13 @@ IsAnswered seat name body need (asked.Refused why) seen later made reply =
     (later ≡ seen) × (made ≡ []) × (reply ≡ refused_reply why)
 IsAnswered seat name body need asked.Put seen later made reply =
     (later ≡ seen)
-    × ((result : Result Bool RegisterErr) × Registers seen name body result × (made ≡ registered_by seat name body result)
+    × ((result : Result Bool RegisterErr) × Registers seen name body result
+    × (made ≡ registered_by seat name body result)
     × (reply ≡ register_reply name result))
 IsAnswered seat name body need asked.Delete seen later made reply =
     (later ≡ seen)
-    × ((result : Result Bool Memory) × Retires seen name result × (made ≡ retired_by seat name result)
+    × ((result : Result Bool Memory) × Retires seen name result
+    × (made ≡ retired_by seat name result)
     × (reply ≡ retire_reply name result))
 IsAnswered seat name body need asked.Get seen later made reply =
     (later ≡ seen) × (made ≡ [])

@@ -6,6 +6,10 @@ use Rattle.lf_model.specs.declared.desk.Counted.{Counted}
 use Rattle.lf_model.specs.declared.document.Limit.{Limit}
 use Rattle.lf_names.specs.Names.{kind_name, counted_name, limit_name, limit_number}
 
+-- how many bytes a frame's name, or an error in words, has at most in a body
+abbrev pub text_room : ℕ
+text_room = 64
+
 -- an error without more; its text needs no escape
 unfoldable pub error_body : List ℕ → List ℕ
 error_body text = codes "{\"error\":\"" ++ text ++ codes "\"}"

@@ -1,6 +1,7 @@
 -- Each body is the JSON text of a map, its members in order of their names (RFC 8259, section 4).
 use Rattle.std.specs.Prelude.{◌≡◌, List, [], ◌∷◌, ℕ, nat_eq, nat_lt, Bool, ◌||◌, not, Option, IsTrue, codes, decimal}
 use Rattle.std.specs.List.{list_all}
+use Rattle.lf_base.specs.Ascii as ch
 use Rattle.def_printed.specs.JsonText.{json_string, json_member, json_object}
 use Rattle.def_patch_texts.specs.declared.kind.LineKind.{LineKind}
 use Rattle.lf_model.specs.ErrorName.{name_of}
@@ -13,7 +14,7 @@ use Rattle.lf_names.specs.Names.{kind_name, counted_name, limit_name, limit_numb
 
 -- a byte that stands in a JSON string as it is
 abbrev pub is_unescaped : ℕ → Bool
-is_unescaped b = not (nat_eq b 34 || nat_eq b 92 || nat_lt b 32)
+is_unescaped b = not (nat_eq b ch.quote || nat_eq b ch.backslash || nat_lt b ch.space)
 
 -- a text member, and a number
 abbrev pub text_member : List ℕ → List ℕ → List ℕ

@@ -39,16 +39,16 @@ abbrev pub history_of : Exchange → List Operation
 history_of x = x.later ++ x.made
 
 -- the greatest number told, where an optional number is told too
-abbrev pub told : ℕ → Option ℕ → ℕ
-told need number = max need (unwrap_or number 0)
+abbrev pub greatest_told : ℕ → Option ℕ → ℕ
+greatest_told need number = max need (unwrap_or number 0)
 
 -- the version that the reply may not be older than: each `Ld-Seen` line counts, whatever the answer
 abbrev pub needed : ℕ → Head → ℕ
-needed need head = told need head.seen
+needed need head = greatest_told need head.seen
 
 -- the version that later replies may not be older than
 abbrev pub need_of : ℕ → Exchange → ℕ
-need_of need x = told (needed need x.head) x.reply.version
+need_of need x = greatest_told (needed need x.head) x.reply.version
 
 -- The request was read whole, with a head within the limits, and was answered by the history before
 -- it with what others made. A turn may come of the boards before it.

@@ -16,6 +16,7 @@ use Rattle.lf_http.specs.declared.reply.Allow.TheVariants as allow
 use Rattle.lf_http.specs.Reply.{reason, crlf, status_text, media_text, allow_text, version_line, close_text, length_text}
 use Rattle.lf_session.specs.declared.request.Refusal.TheVariants as why
 use Rattle.lf_session.specs.Bodies.{error_body, frame_body, version_body, pending_body, bad_line_body, frame_too_long_body, too_many_body, history_full_body, fractional_body, limit_body, idle_body, published_body, home_body, superseded_body}
+use Rattle.def_documents.specs.Document.{most_items, most_bytes}
 use Rattle.lf_names.specs.Names.{kind_name, counted_name, limit_name, limit_number}
 use Rattle.lf_session.specs.Replies.{Reply, plain, commit_reply, register_reply, retire_reply, look_reply, framed_reply, document_reply, turn_reply, reply_bytes, refusal, refusal_bytes}
 use Rattle.lf_session.specs.Requests.{refused_reply}
@@ -24,7 +25,8 @@ use Rattle.lf_session.specs.Requests.{refused_reply}
 unfoldable pub replies_open : Unit {0}
 unfolding reason crlf status_text media_text allow_text version_line close_text length_text digits
     error_body frame_body version_body pending_body bad_line_body kind_name frame_too_long_body
-    too_many_body counted_name history_full_body fractional_body limit_name limit_number limit_body
+    too_many_body counted_name history_full_body fractional_body limit_name limit_number most_items
+    most_bytes limit_body
     idle_body published_body home_body superseded_body
 replies_open = tt
 

@@ -55,29 +55,29 @@ at_target head target.VersionAt = at_version head.method
 at_target head target.TurnAt = at_turn head.method
 at_target head target.NoTarget = asked.Refused refused.NoSuchPath
 
--- a line of the session that isn't well formed
-abbrev pub checked : Head → Asked → Asked
-checked head wanted =
+-- what is wanted, unless a line of the session isn't well formed
+abbrev pub unless_bad_line : Head → Asked → Asked
+unless_bad_line head wanted =
     if head.bad_seen then asked.Refused refused.BadSeen
     else if head.bad_refresh then asked.Refused refused.BadRefresh
     else wanted
 
--- it is refused where all else is right
-abbrev pub with_lines : Head → Asked → Asked
-with_lines head (asked.Refused why) = asked.Refused why
-with_lines head asked.Put = checked head asked.Put
-with_lines head asked.Delete = checked head asked.Delete
-with_lines head asked.Get = checked head asked.Get
-with_lines head asked.GetNow = checked head asked.GetNow
-with_lines head asked.Commit = checked head asked.Commit
-with_lines head asked.Version = checked head asked.Version
-with_lines head asked.Turn = checked head asked.Turn
+-- such a line is refused where all else is right
+abbrev pub unless_refused : Head → Asked → Asked
+unless_refused head (asked.Refused why) = asked.Refused why
+unless_refused head asked.Put = unless_bad_line head asked.Put
+unless_refused head asked.Delete = unless_bad_line head asked.Delete
+unless_refused head asked.Get = unless_bad_line head asked.Get
+unless_refused head asked.GetNow = unless_bad_line head asked.GetNow
+unless_refused head asked.Commit = unless_bad_line head asked.Commit
+unless_refused head asked.Version = unless_bad_line head asked.Version
+unless_refused head asked.Turn = unless_bad_line head asked.Turn
 
 -- what is asked for
 abbrev pub asked_by : Head → Asked
 asked_by head =
     if not head.plain then asked.Refused refused.ContentEncoding
-    else with_lines head (at_target head head.target)
+    else unless_refused head (at_target head head.target)
 
 -- the reply to a refused request
 abbrev pub refused_reply : Refusal → Reply

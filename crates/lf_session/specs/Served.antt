@@ -12,7 +12,7 @@ use Rattle.lf_session.specs.Moving.{Moves, GrewBy}
 use Rattle.lf_session.specs.Replies.{Reply, reply_bytes, refusal}
 use Rattle.lf_session.specs.Requests.{asked_by}
 use Rattle.lf_session.specs.Steps.{IsStep}
-use Rattle.lf_session.specs.Exchanges.{Exchange, IsExchange, message_of, answer_of, history_of, need_of, needed, all_made, last_boards, turns_in, told as told_by}
+use Rattle.lf_session.specs.Exchanges.{Exchange, IsExchange, message_of, answer_of, history_of, need_of, needed, all_made, last_boards, turns_in, greatest_told}
 use Rattle.lf_desk.specs.Seats.{own}
 use Rattle.lf_session.specs.Headline.{answered}
 use Rattle.lf_session.specs.Session.{Last, nothing, request, refused, cut, faulted, no_room, no_buffers, IsLast, EndsBy, IsSession, reads_failed, writes_failed}
@@ -143,7 +143,7 @@ pub record Replies (alone : Bool) (boards boards_after : Boards) (seat need need
   pub step : IsStep alone seat (needed need head) name body (asked_by head) before after reply
   pub moved : Moves alone boards boards_after seat (asked_by head) before after reply
   pub out : StaysOut alone after boards boards_after
-  pub needs : need_after ≡ told_by (needed need head) reply.version
+  pub needs : need_after ≡ greatest_told (needed need head) reply.version
   pub sends :
       SendsReply head.close (reply_bytes head.method head.close reply) held_before held_after result
 

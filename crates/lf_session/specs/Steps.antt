@@ -8,6 +8,7 @@ use Rattle.def_turns.specs.declared.turned.Turned.TheVariants as t
 use Rattle.lf_frames.specs.FrameTexts.{is_frame}
 use Rattle.lf_desk.specs.Seats.{IsExtended}
 use Rattle.lf_session.specs.declared.request.Asked.{Asked}
+use Rattle.lf_session.specs.Bodies.{text_room}
 use Rattle.lf_session.specs.Replies.{Reply}
 use Rattle.lf_session.specs.Answers.{IsAnswered}
 
@@ -24,10 +25,10 @@ pub record IsStep (alone : Bool) (seat need : ℕ) (name body : List ℕ) (asked
   pub legal : IsLegal is_frame after
   pub answered : IsAnswered seat name body need asked seen later made reply
 
--- the name of a frame that is told has at most 64 bytes
+-- the name of a frame that is told has room in a body
 abbrev pub HasShortName : Result Turned Memory → Type 0
 HasShortName (Ok t.Idle) = Unit {0}
-HasShortName (Ok (t.Published name version)) = length name ≤ 64
-HasShortName (Ok (t.Home name version)) = length name ≤ 64
-HasShortName (Ok (t.Superseded name was now)) = length name ≤ 64
+HasShortName (Ok (t.Published name version)) = length name ≤ text_room
+HasShortName (Ok (t.Home name version)) = length name ≤ text_room
+HasShortName (Ok (t.Superseded name was now)) = length name ≤ text_room
 HasShortName (Err refused) = Unit {0}

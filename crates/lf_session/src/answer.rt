@@ -1,5 +1,6 @@
 //! Requests answered by a desk, one function a request.
 ghost use Rattle.std.specs.Prelude.{◌≡◌, ◌≤◌, [], List, ℕ, Bool, IsTrue, IsUtf8, Ok, length};
+ghost use Rattle.lf_http.specs.Judge.{longest_body};
 ghost use Rattle.lf_http.specs.Reply.{is_named};
 ghost use Rattle.lf_model.specs.declared.desk.Look.TheVariants.{Pending};
 ghost use Rattle.def_histories.specs.declared.operation.Operation.{Operation};
@@ -12,11 +13,10 @@ ghost use Rattle.lf_session.specs.Shown.{shown};
 ghost use Rattle.lf_session.specs.Steps.{IsStep};
 ghost use Rattle.lf_session.specs.declared.request.Asked.TheVariants as asks;
 
-use crate::registering::{refused_bytes, register_failed, registered, retired};
-use crate::reply::{
-    Reply, bad_line, commit_reply, document_reply, framed_reply, look_reply, out_of_memory,
-    pending, refused_reply, unknown_frame, version_reply,
-};
+use crate::commits::{bad_line_reply, commit_reply, version_reply};
+use crate::documents::{document_reply, framed_reply, look_reply, pending_reply};
+use crate::registering::{refused_bytes, register_failed, registered_reply, retired_reply};
+use crate::reply::{Reply, out_of_memory, refused_reply, unknown_frame};
 use crate::request::Asked;
 use crate::texts::frame_text;
 use crate::turning::answer_turn;
@@ -28,7 +28,8 @@ use lf_rdf::Patch;
 use std::alloc::Global;
 
 fn answer_version<D: Desk>(desk: &mut D) -> Reply
-    ensures step { (need : ℕ) (name body : List ℕ) → IsStep (D.alone desk.old) (D.seat desk.old) need name body asks.Version
+    ensures step { (need : ℕ) (name body : List ℕ)
+        → IsStep (D.alone desk.old) (D.seat desk.old) need name body asks.Version
         (D.history desk.old) (D.history desk.new) (shown result) }
     ensures keeps { KeepsBoards (D.alone desk.old) (D.history desk.new)
         (boards_of (D.away desk.old) (D.taken desk.old))
@@ -41,7 +42,8 @@ fn answer_version<D: Desk>(desk: &mut D) -> Reply
 }
 
 fn answer_get<D: Desk>(alloc: Global, desk: &mut D, name: &str, need: u64) -> Reply
-    ensures step { (body : List ℕ) → IsStep (D.alone desk.old) (D.seat desk.old) need name.now body asks.Get
+    ensures step { (body : List ℕ)
+        → IsStep (D.alone desk.old) (D.seat desk.old) need name.now body asks.Get
         (D.history desk.old) (D.history desk.new) (shown result) }
     ensures keeps { KeepsBoards (D.alone desk.old) (D.history desk.new)
         (boards_of (D.away desk.old) (D.taken desk.old))
@@ -56,7 +58,8 @@ fn answer_get<D: Desk>(alloc: Global, desk: &mut D, name: &str, need: u64) -> Re
 // Registers a text.
 fn register<D: Desk>(alloc: Global, desk: &mut D, name: &str, text: &str) -> Reply
     requires { IsUtf8 text.now }
-    ensures step { (need : ℕ) → IsStep (D.alone desk.old) (D.seat desk.old) need name.now text.now asks.Put
+    ensures step { (need : ℕ)
+        → IsStep (D.alone desk.old) (D.seat desk.old) need name.now text.now asks.Put
         (D.history desk.old) (D.history desk.new) (shown result) }
     ensures keeps { KeepsBoards (D.alone desk.old) (D.history desk.new)
         (boards_of (D.away desk.old) (D.taken desk.old))
@@ -66,13 +69,14 @@ fn register<D: Desk>(alloc: Global, desk: &mut D, name: &str, text: &str) -> Rep
     ensures named { IsTrue (is_named result.status) }
 {
     match desk.register(alloc, name, text) {
-        Ok(fresh) => registered(name, fresh),
+        Ok(fresh) => registered_reply(name, fresh),
         Err(error) => register_failed(alloc, error),
     }
 }
 
 fn answer_put<D: Desk>(alloc: Global, desk: &mut D, name: &str, body: &[u8]) -> Reply
-    ensures step { (need : ℕ) → IsStep (D.alone desk.old) (D.seat desk.old) need name.now body.now asks.Put
+    ensures step { (need : ℕ)
+        → IsStep (D.alone desk.old) (D.seat desk.old) need name.now body.now asks.Put
         (D.history desk.old) (D.history desk.new) (shown result) }
     ensures keeps { KeepsBoards (D.alone desk.old) (D.history desk.new)
         (boards_of (D.away desk.old) (D.taken desk.old))
@@ -90,7 +94,8 @@ fn answer_put<D: Desk>(alloc: Global, desk: &mut D, name: &str, body: &[u8]) -> 
 // Retires a name whose body was made, so that no memory is taken after it.
 fn retire<D: Desk>(alloc: Global, desk: &mut D, name: &str, text: Text) -> Reply
     requires { text ≡ frame_body name.now }
-    ensures step { (need : ℕ) (body : List ℕ) → IsStep (D.alone desk.old) (D.seat desk.old) need name.now body asks.Delete
+    ensures step { (need : ℕ) (body : List ℕ)
+        → IsStep (D.alone desk.old) (D.seat desk.old) need name.now body asks.Delete
         (D.history desk.old) (D.history desk.new) (shown result) }
     ensures keeps { KeepsBoards (D.alone desk.old) (D.history desk.new)
         (boards_of (D.away desk.old) (D.taken desk.old))
@@ -100,14 +105,15 @@ fn retire<D: Desk>(alloc: Global, desk: &mut D, name: &str, text: Text) -> Reply
     ensures named { IsTrue (is_named result.status) }
 {
     match desk.retire(alloc, name) {
-        Ok(true) => retired(text),
+        Ok(true) => retired_reply(text),
         Ok(false) => unknown_frame(),
         Err(Memory) => out_of_memory(),
     }
 }
 
 fn answer_delete<D: Desk>(alloc: Global, desk: &mut D, name: &str) -> Reply
-    ensures step { (need : ℕ) (body : List ℕ) → IsStep (D.alone desk.old) (D.seat desk.old) need name.now body asks.Delete
+    ensures step { (need : ℕ) (body : List ℕ)
+        → IsStep (D.alone desk.old) (D.seat desk.old) need name.now body asks.Delete
         (D.history desk.old) (D.history desk.new) (shown result) }
     ensures keeps { KeepsBoards (D.alone desk.old) (D.history desk.new)
         (boards_of (D.away desk.old) (D.taken desk.old))
@@ -131,7 +137,8 @@ fn refresh<D: Desk>(
     have: Option<u64>,
     needed: u64,
 ) -> Reply
-    ensures call { IsCall (D.alone desk.old) (D.seat desk.old) (D.history desk.old) (D.history desk.new) []
+    ensures call { IsCall (D.alone desk.old) (D.seat desk.old)
+        (D.history desk.old) (D.history desk.new) []
         (λ later. Refreshes name.now need [] later (Ok (Pending have needed)) (shown result)) }
     ensures keeps { KeepsBoards (D.alone desk.old) (D.history desk.new)
         (boards_of (D.away desk.old) (D.taken desk.old))
@@ -143,12 +150,13 @@ fn refresh<D: Desk>(
     if need <= desk.newest() {
         framed_reply(desk.frame_now(alloc, name))
     } else {
-        pending(have, needed)
+        pending_reply(have, needed)
     }
 }
 
 fn answer_now<D: Desk>(alloc: Global, desk: &mut D, name: &str, need: u64) -> Reply
-    ensures step { (body : List ℕ) → IsStep (D.alone desk.old) (D.seat desk.old) need name.now body asks.GetNow
+    ensures step { (body : List ℕ)
+        → IsStep (D.alone desk.old) (D.seat desk.old) need name.now body asks.GetNow
         (D.history desk.old) (D.history desk.new) (shown result) }
     ensures keeps { KeepsBoards (D.alone desk.old) (D.history desk.new)
         (boards_of (D.away desk.old) (D.taken desk.old))
@@ -168,7 +176,8 @@ fn answer_now<D: Desk>(alloc: Global, desk: &mut D, name: &str, need: u64) -> Re
 // Commits a patch that was read.
 fn commit<D: Desk>(alloc: Global, desk: &mut D, patch: Patch) -> Reply
     ensures step { (need : ℕ) (name body : List ℕ) → IsPatch body patch
-        → IsStep (D.alone desk.old) (D.seat desk.old) need name body asks.Commit (D.history desk.old) (D.history desk.new) (shown result) }
+        → IsStep (D.alone desk.old) (D.seat desk.old) need name body asks.Commit
+        (D.history desk.old) (D.history desk.new) (shown result) }
     ensures keeps { KeepsBoards (D.alone desk.old) (D.history desk.new)
         (boards_of (D.away desk.old) (D.taken desk.old))
         (boards_of (D.away desk.new) (D.taken desk.new)) }
@@ -180,8 +189,9 @@ fn commit<D: Desk>(alloc: Global, desk: &mut D, patch: Patch) -> Reply
 }
 
 fn answer_commit<D: Desk>(alloc: Global, desk: &mut D, body: &[u8]) -> Reply
-    requires short { length body.now ≤ 67108864 }
-    ensures step { (need : ℕ) (name : List ℕ) → IsStep (D.alone desk.old) (D.seat desk.old) need name body.now asks.Commit
+    requires short { length body.now ≤ longest_body }
+    ensures step { (need : ℕ) (name : List ℕ) → IsStep (D.alone desk.old) (D.seat desk.old) need
+        name body.now asks.Commit
         (D.history desk.old) (D.history desk.new) (shown result) }
     ensures keeps { KeepsBoards (D.alone desk.old) (D.history desk.new)
         (boards_of (D.away desk.old) (D.taken desk.old))
@@ -192,7 +202,7 @@ fn answer_commit<D: Desk>(alloc: Global, desk: &mut D, body: &[u8]) -> Reply
 {
     match read_patch(alloc, body) {
         Ok(patch) => commit(alloc, desk, patch),
-        Err(LineErr::Bad { line, kind }) => bad_line(kind, line),
+        Err(LineErr::Bad { line, kind }) => bad_line_reply(kind, line),
         Err(LineErr::Memory) => out_of_memory(),
     }
 }
@@ -206,10 +216,11 @@ pub fn answer<D: Rota>(
     body: &[u8],
     need: u64,
 ) -> Reply
-    requires short { length body.now ≤ 67108864 }
-    ensures step { IsStep (D.alone desk.old) (D.seat desk.old) need name.now body.now asked (D.history desk.old) (D.history desk.new)
-        (shown result) }
-    ensures moved { Moves (D.alone desk.old) (boards_of (D.away desk.old) (D.taken desk.old)) (boards_of (D.away desk.new) (D.taken desk.new))
+    requires short { length body.now ≤ longest_body }
+    ensures step { IsStep (D.alone desk.old) (D.seat desk.old) need name.now body.now asked
+        (D.history desk.old) (D.history desk.new) (shown result) }
+    ensures moved { Moves (D.alone desk.old) (boards_of (D.away desk.old) (D.taken desk.old))
+        (boards_of (D.away desk.new) (D.taken desk.new))
         (D.seat desk.old) asked (D.history desk.old) (D.history desk.new) (shown result) }
     ensures out { StaysOut (D.alone desk.old) (D.history desk.new)
         (boards_of (D.away desk.old) (D.taken desk.old))

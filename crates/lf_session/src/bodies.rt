@@ -1,7 +1,7 @@
 //! Bodies of replies that take no memory, as JSON texts in compact form (RFC 8259).
 ghost use Rattle.std.specs.Prelude.{◌≡◌, ◌+◌, ◌≤◌, ◌++◌, [], length, codes, decimal};
 ghost use Rattle.lf_http.specs.ShortText.{short_room, number_room};
-ghost use Rattle.lf_session.specs.Bodies.{error_body, frame_body, version_body, number_or_null, pending_body, bad_line_body, frame_too_long_body, too_many_body, history_full_body, limit_body, idle_body, published_body, home_body, superseded_body};
+ghost use Rattle.lf_session.specs.Bodies.{text_room, error_body, frame_body, version_body, number_or_null, pending_body, bad_line_body, frame_too_long_body, too_many_body, history_full_body, limit_body, idle_body, published_body, home_body, superseded_body};
 
 use def_patch_texts::LineKind;
 use lf_http::{ShortText, put, put_number};
@@ -21,7 +21,7 @@ fn begin(text: &[u8]) -> ShortText
 /// An error without more.
 #[tactic(auto, unfolding(crate::specs::Bodies::error_body))]
 pub fn error_body(text: &[u8]) -> ShortText
-    requires { length text.now ≤ 64 }
+    requires { length text.now ≤ text_room }
     ensures { result.items ≡ error_body text.now }
 {
     let mut body = begin(b"{\"error\":\"");
@@ -33,7 +33,7 @@ pub fn error_body(text: &[u8]) -> ShortText
 /// A frame's name.
 #[tactic(auto, unfolding(crate::specs::Bodies::frame_body))]
 pub fn frame_body(name: &[u8]) -> ShortText
-    requires { length name.now ≤ 64 }
+    requires { length name.now ≤ text_room }
     ensures { result.items ≡ frame_body name.now }
 {
     let mut body = begin(b"{\"frame\":\"");
@@ -105,7 +105,7 @@ pub fn frame_too_long_body(size: u64) -> ShortText
 /// Something would be more than may be.
 #[tactic(auto, unfolding(crate::specs::Bodies::too_many_body))]
 pub fn too_many_body(what: &[u8], have: u64, would: u64) -> ShortText
-    requires { length what.now ≤ 20 }
+    requires { length what.now ≤ text_room }
     ensures { result.items ≡ too_many_body what.now have would }
 {
     let mut body = begin(b"{\"error\":\"too many ");
@@ -157,7 +157,7 @@ pub fn idle_body() -> ShortText
 /// A turn that published a version of a frame's document.
 #[tactic(auto, unfolding(crate::specs::Bodies::published_body))]
 pub fn published_body(name: &[u8], version: u64) -> ShortText
-    requires { length name.now ≤ 64 }
+    requires { length name.now ≤ text_room }
     ensures { result.items ≡ published_body name.now version }
 {
     let mut body = begin(b"{\"frame\":\"");
@@ -171,7 +171,7 @@ pub fn published_body(name: &[u8], version: u64) -> ShortText
 /// A turn whose board is at home again.
 #[tactic(auto, unfolding(crate::specs::Bodies::home_body))]
 pub fn home_body(name: &[u8]) -> ShortText
-    requires { length name.now ≤ 64 }
+    requires { length name.now ≤ text_room }
     ensures { result.items ≡ home_body name.now }
 {
     let mut body = begin(b"{\"frame\":\"");
@@ -183,7 +183,7 @@ pub fn home_body(name: &[u8]) -> ShortText
 /// A turn whose board's text isn't live any more: the numbers of that text and of the live one.
 #[tactic(auto, unfolding(crate::specs::Bodies::superseded_body))]
 pub fn superseded_body(name: &[u8], was: u64, now: Option<u64>) -> ShortText
-    requires { length name.now ≤ 64 }
+    requires { length name.now ≤ text_room }
     ensures { result.items ≡ superseded_body name.now was now }
 {
     let mut body = begin(b"{\"frame\":\"");

@@ -3,6 +3,8 @@
 
 mod answer;
 mod bodies;
+mod commits;
+mod documents;
 mod ended;
 mod law;
 mod registering;

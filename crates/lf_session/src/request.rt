@@ -1,6 +1,6 @@
 //! What an accepted head asks for.
 ghost use Rattle.std.specs.Prelude.{◌≡◌};
-ghost use Rattle.lf_session.specs.Requests.{asked_by, at_target, at_frame, at_patch, at_turn, at_version, checked, with_lines};
+ghost use Rattle.lf_session.specs.Requests.{asked_by, at_target, at_frame, at_patch, at_turn, at_version, unless_bad_line, unless_refused};
 
 use lf_http::{Allow, Head, Method, Target};
 
@@ -103,8 +103,8 @@ fn at_target(head: &Head) -> Asked
 }
 
 // What is wanted, unless a line of the session isn't well formed.
-fn checked(head: &Head, wanted: Asked) -> Asked
-    ensures { result ≡ checked head.entry.now wanted }
+fn unless_bad_line(head: &Head, wanted: Asked) -> Asked
+    ensures { result ≡ unless_bad_line head.entry.now wanted }
 {
     if head.bad_seen {
         Asked::Refused(Refusal::BadSeen)
@@ -115,18 +115,19 @@ fn checked(head: &Head, wanted: Asked) -> Asked
     }
 }
 
-fn with_lines(head: &Head, wanted: Asked) -> Asked
-    ensures { result ≡ with_lines head.entry.now wanted }
+// The same, unless the request is refused already.
+fn unless_refused(head: &Head, wanted: Asked) -> Asked
+    ensures { result ≡ unless_refused head.entry.now wanted }
 {
     match wanted {
         Asked::Refused(why) => Asked::Refused(why),
-        Asked::Put => checked(head, Asked::Put),
-        Asked::Delete => checked(head, Asked::Delete),
-        Asked::Get => checked(head, Asked::Get),
-        Asked::GetNow => checked(head, Asked::GetNow),
-        Asked::Commit => checked(head, Asked::Commit),
-        Asked::Version => checked(head, Asked::Version),
-        Asked::Turn => checked(head, Asked::Turn),
+        Asked::Put => unless_bad_line(head, Asked::Put),
+        Asked::Delete => unless_bad_line(head, Asked::Delete),
+        Asked::Get => unless_bad_line(head, Asked::Get),
+        Asked::GetNow => unless_bad_line(head, Asked::GetNow),
+        Asked::Commit => unless_bad_line(head, Asked::Commit),
+        Asked::Version => unless_bad_line(head, Asked::Version),
+        Asked::Turn => unless_bad_line(head, Asked::Turn),
     }
 }
 
@@ -137,6 +138,6 @@ pub fn asked_by(head: &Head) -> Asked
     if !head.plain {
         Asked::Refused(Refusal::ContentEncoding)
     } else {
-        with_lines(head, at_target(head))
+        unless_refused(head, at_target(head))
     }
 }

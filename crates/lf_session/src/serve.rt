@@ -1,10 +1,11 @@
 //! One stream served, request by request.
 ghost use Rattle.std.specs.Prelude.{◌≡◌, ◌<◌, ◌≤◌, ℕ, length, IsTrue, List, Option, Err, Some, None};
+ghost use Rattle.lf_http.specs.Judge.{longest_body};
 ghost use Rattle.lf_http.specs.Reading.{to_come, count_after_head};
 ghost use Rattle.lf_http.specs.Reply.{is_named};
 ghost use Rattle.lf_http.specs.declared.head.Head.{Head};
 ghost use Rattle.lf_session.specs.Boards.{boards_of};
-ghost use Rattle.lf_session.specs.Exchanges.{told};
+ghost use Rattle.lf_session.specs.Exchanges.{greatest_told};
 ghost use Rattle.lf_session.specs.Replies.{refusal};
 ghost use Rattle.lf_session.specs.Session.{refused, no_room, reads_failed, writes_failed};
 ghost use Rattle.lf_session.specs.Served.{IsServed, Serves, Replies, last_of, SendsLast, reads_after, writes_after};
@@ -21,9 +22,9 @@ use lf_http::{BodyErr, Buffers, Head, HeadErr, Method, read_body, read_head};
 use lf_io::{Failed, Sink, Source};
 use std::alloc::Global;
 
-// The greater of the numbers told.
-fn told(need: u64, number: Option<u64>) -> u64
-    ensures { result ≡ told need number }
+// The greatest number told, where an optional number is told too.
+fn greatest_told(need: u64, number: Option<u64>) -> u64
+    ensures { result ≡ greatest_told need number }
 {
     match number {
         Some(number) => need.max(number),
@@ -38,7 +39,8 @@ fn send_refusal<K: Sink>(output: &mut K, buffers: &mut Buffers, e: HeadErr, repl
     requires refused { refusal e ≡ Some (shown reply.now) }
     ensures ends { SendsLast (last_of e) (K.held output.old) (K.held output.new) result }
     ensures writes { K.faults output.new ≡ writes_failed (K.faults output.old) result }
-    ensures reads { (count : ℕ) → reads_failed count result ≡ count_after_head {A = Head} count (Err e) }
+    ensures reads { (count : ℕ) → reads_failed count result
+        ≡ count_after_head {A = Head} count (Err e) }
 {
     match send(output, buffers, Method::OtherMethod, true, reply) {
         Ok(()) => Ended::Bad(reply.status),
@@ -51,7 +53,8 @@ fn end_unsent(e: HeadErr) -> Ended
     requires { refusal e ≡ None }
     ensures ends { (held : Option (List ℕ)) → SendsLast (last_of e) held held result }
     ensures writes { (count : ℕ) → writes_failed count result ≡ count }
-    ensures reads { (count : ℕ) → reads_failed count result ≡ count_after_head {A = Head} count (Err e) }
+    ensures reads { (count : ℕ) → reads_failed count result
+        ≡ count_after_head {A = Head} count (Err e) }
 {
     match e {
         HeadErr::ReadFault => Ended::ReadFault,
@@ -68,7 +71,8 @@ fn end_unsent(e: HeadErr) -> Ended
 fn refuse<K: Sink>(output: &mut K, buffers: &mut Buffers, e: HeadErr) -> Ended
     ensures ends { SendsLast (last_of e) (K.held output.old) (K.held output.new) result }
     ensures writes { K.faults output.new ≡ writes_failed (K.faults output.old) result }
-    ensures reads { (count : ℕ) → reads_failed count result ≡ count_after_head {A = Head} count (Err e) }
+    ensures reads { (count : ℕ) → reads_failed count result
+        ≡ count_after_head {A = Head} count (Err e) }
 {
     match refusal(e) {
         Some(reply) => send_refusal(output, buffers, e, &reply),
@@ -79,7 +83,8 @@ fn refuse<K: Sink>(output: &mut K, buffers: &mut Buffers, e: HeadErr) -> Ended
 // Ends the stream at a request for whose body no memory was found.
 #[tactic(auto, using(crate::proofs::Serving::sends_whole, crate::proofs::Serving::sends_part))]
 fn starve<K: Sink>(output: &mut K, buffers: &mut Buffers, head: &Head) -> Ended
-    ensures ends { SendsLast (no_room head.entry.now) (K.held output.old) (K.held output.new) result }
+    ensures ends { SendsLast (no_room head.entry.now) (K.held output.old) (K.held output.new)
+        result }
     ensures writes { K.faults output.new ≡ writes_failed (K.faults output.old) result }
     ensures reads { (count : ℕ) → reads_failed count result ≡ count }
 {
@@ -98,8 +103,9 @@ fn reply<D: Rota, K: Sink>(
     head: &Head,
     need: &mut u64,
 ) -> Option<Ended>
-    requires short { length buffers.old.body ≤ 67108864 }
-    ensures replies { Replies (D.alone desk.old) (boards_of (D.away desk.old) (D.taken desk.old)) (boards_of (D.away desk.new) (D.taken desk.new))
+    requires short { length buffers.old.body ≤ longest_body }
+    ensures replies { Replies (D.alone desk.old) (boards_of (D.away desk.old) (D.taken desk.old))
+        (boards_of (D.away desk.new) (D.taken desk.new))
         (D.seat desk.old) need.old need.new head.entry.now buffers.old.name buffers.old.body
         (D.history desk.old) (D.history desk.new) (K.held output.old) (K.held output.new) result }
     ensures same_seat { D.seat desk.new ≡ D.seat desk.old }
@@ -108,7 +114,7 @@ fn reply<D: Rota, K: Sink>(
     ensures reads { (count : ℕ) → reads_after count result ≡ count }
     ensures pending { buffers.new.pending ≡ buffers.old.pending }
 {
-    let seen = told(*need, head.seen);
+    let seen = greatest_told(*need, head.seen);
     let reply = answer(
         alloc,
         desk,
@@ -117,7 +123,7 @@ fn reply<D: Rota, K: Sink>(
         buffers.body(),
         seen,
     );
-    *need = told(seen, reply.version);
+    *need = greatest_told(seen, reply.version);
     match send(output, buffers, head.method, head.close, &reply) {
         Ok(()) => { if head.close { Some(Ended::Asked) } else { None } }
         Err(Failed) => Some(Ended::WriteFault),
@@ -133,9 +139,15 @@ fn serve_next<D: Rota, S: Source, K: Sink>(
     buffers: &mut Buffers,
     need: &mut u64,
 ) -> Option<Ended>
-    ensures serves { Serves (D.alone desk.old) (boards_of (D.away desk.old) (D.taken desk.old)) (boards_of (D.away desk.new) (D.taken desk.new))
+    ensures serves { Serves (D.alone desk.old) (boards_of (D.away desk.old) (D.taken desk.old))
+        (boards_of (D.away desk.new) (D.taken desk.new))
         (D.seat desk.old) need.old need.new (D.history desk.old) (D.history desk.new)
-        (record { left_before = S.left input.old; left_after = S.left input.new; held_before = K.held output.old; held_after = K.held output.new })
+        (record {
+          left_before = S.left input.old;
+          left_after = S.left input.new;
+          held_before = K.held output.old;
+          held_after = K.held output.new;
+        })
         buffers.old.pending buffers.new.pending result }
     ensures same_seat { D.seat desk.new ≡ D.seat desk.old }
     ensures same_alone { D.alone desk.new ≡ D.alone desk.old }
@@ -170,9 +182,15 @@ pub fn serve_stream<D: Rota, S: Source, K: Sink>(
     // What was read and sent is a session over the desk's history. The seat's own operations in it
     // are those before and what the requests made, in order. A turn is one that the boards, and the
     // histories before and after it, allow.
-    ensures served { IsServed (D.alone desk.old) (boards_of (D.away desk.old) (D.taken desk.old)) (boards_of (D.away desk.new) (D.taken desk.new))
+    ensures served { IsServed (D.alone desk.old) (boards_of (D.away desk.old) (D.taken desk.old))
+        (boards_of (D.away desk.new) (D.taken desk.new))
         (D.seat desk.old) (D.history desk.old) (D.history desk.new)
-        (record { left_before = S.left input.old; left_after = S.left input.new; held_before = K.held output.old; held_after = K.held output.new })
+        (record {
+          left_before = S.left input.old;
+          left_after = S.left input.new;
+          held_before = K.held output.old;
+          held_after = K.held output.new;
+        })
         result }
     ensures same_seat { D.seat desk.new ≡ D.seat desk.old }
     ensures same_alone { D.alone desk.new ≡ D.alone desk.old }

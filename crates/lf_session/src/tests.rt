@@ -1,3 +1,4 @@
+//! Bodies of replies, byte for byte.
 use crate::bodies::{
     bad_line_body, error_body, frame_too_long_body, history_full_body, home_body, idle_body,
     limit_body, pending_body, published_body, superseded_body, too_many_body, version_body,

@@ -24,7 +24,7 @@ use std::sync::ledger::{Blank, Ledger};
 
 // A body that says what came of a turn.
 #[tactic(auto, unfolding(lf_http::specs::Reply::reason))]
-fn said(body: ShortText) -> Reply
+fn ok_reply(body: ShortText) -> Reply
     ensures shown { shown result ≡ plain 200 body.items }
     ensures named { IsTrue (is_named result.status) }
 {
@@ -38,13 +38,13 @@ fn turn_reply(done: Result<Turned, Memory>) -> Reply
     ensures named { IsTrue (is_named result.status) }
 {
     match done {
-        Ok(Turned::Idle) => said(idle_body()),
+        Ok(Turned::Idle) => ok_reply(idle_body()),
         Ok(Turned::Published { frame, version }) => {
-            said(published_body(frame.as_str().as_bytes(), version))
+            ok_reply(published_body(frame.as_str().as_bytes(), version))
         }
-        Ok(Turned::Home { frame, .. }) => said(home_body(frame.as_str().as_bytes())),
+        Ok(Turned::Home { frame, .. }) => ok_reply(home_body(frame.as_str().as_bytes())),
         Ok(Turned::Superseded { frame, then, now }) => {
-            said(superseded_body(frame.as_str().as_bytes(), then, now))
+            ok_reply(superseded_body(frame.as_str().as_bytes(), then, now))
         }
         Err(Memory) => out_of_memory(),
     }
@@ -55,9 +55,11 @@ fn count_turn<D: Rota, L: Ledger>(alloc: Global, desk: &mut D, blank: Blank) -> 
     requires name { blank.name ≡ L.name }
     requires parts { blank.parts ≡ L.parts }
     requires one { 0 < blank.parts }
-    ensures step { (need : ℕ) (name body : List ℕ) → IsStep (D.alone desk.old) (D.seat desk.old) need name body asks.Turn
+    ensures step { (need : ℕ) (name body : List ℕ)
+        → IsStep (D.alone desk.old) (D.seat desk.old) need name body asks.Turn
         (D.history desk.old) (D.history desk.new) (shown result) }
-    ensures moved { Moves (D.alone desk.old) (boards_of (D.away desk.old) (D.taken desk.old)) (boards_of (D.away desk.new) (D.taken desk.new))
+    ensures moved { Moves (D.alone desk.old) (boards_of (D.away desk.old) (D.taken desk.old))
+        (boards_of (D.away desk.new) (D.taken desk.new))
         (D.seat desk.old) asks.Turn (D.history desk.old) (D.history desk.new) (shown result) }
     ensures out { StaysOut (D.alone desk.old) (D.history desk.new)
         (boards_of (D.away desk.old) (D.taken desk.old))
@@ -72,9 +74,11 @@ fn count_turn<D: Rota, L: Ledger>(alloc: Global, desk: &mut D, blank: Blank) -> 
 
 /// Makes a turn: takes a board, brings it to the newest version and gives it back.
 pub fn answer_turn<D: Rota>(alloc: Global, desk: &mut D) -> Reply
-    ensures step { (need : ℕ) (name body : List ℕ) → IsStep (D.alone desk.old) (D.seat desk.old) need name body asks.Turn
+    ensures step { (need : ℕ) (name body : List ℕ)
+        → IsStep (D.alone desk.old) (D.seat desk.old) need name body asks.Turn
         (D.history desk.old) (D.history desk.new) (shown result) }
-    ensures moved { Moves (D.alone desk.old) (boards_of (D.away desk.old) (D.taken desk.old)) (boards_of (D.away desk.new) (D.taken desk.new))
+    ensures moved { Moves (D.alone desk.old) (boards_of (D.away desk.old) (D.taken desk.old))
+        (boards_of (D.away desk.new) (D.taken desk.new))
         (D.seat desk.old) asks.Turn (D.history desk.old) (D.history desk.new) (shown result) }
     ensures out { StaysOut (D.alone desk.old) (D.history desk.new)
         (boards_of (D.away desk.old) (D.taken desk.old))

@@ -11,8 +11,8 @@ use Rattle.lf_session.proofs.answer.answer_commit.Goals as goal
 pub returns-in-Err-Bad-clause-step : goal.returns-in-Err-Bad-clause-step
 returns-in-Err-Bad-clause-step g c = λ need name.
     let bad : IsBadLine c.args.body.now c.in-Err-Bad.line c.in-Err-Bad.kind = rw c.in-Err-Bad.field-0-is at c.in-Err-Bad.ensures.bad in
-    let said : shown c.bad_line.result ≡ bad_line_reply c.in-Err-Bad.kind c.in-Err-Bad.line = rw c.in-Err-Bad.field-0-is at c.bad_line.ensures.shown in
-    step-alone _ _ need name c.args.body.now asks.Commit _ (shown c.bad_line.result)
+    let said : shown c.bad_line_reply.result ≡ bad_line_reply c.in-Err-Bad.kind c.in-Err-Bad.line = rw c.in-Err-Bad.field-0-is at c.bad_line_reply.ensures.shown in
+    step-alone _ _ need name c.args.body.now asks.Commit _ (shown c.bad_line_reply.result)
     (g.met.D.Desk.legal c.args.desk.now)
     (commit-bad _ need name c.args.body.now _ c.in-Err-Bad.kind c.in-Err-Bad.line _ bad said)
 

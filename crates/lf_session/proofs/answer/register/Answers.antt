@@ -12,8 +12,8 @@ registered-requires g c =
 
 pub returns-in-Ok-clause-step : goal.returns-in-Ok-clause-step
 returns-in-Ok-clause-step g c = λ need.
-    step-once _ _ need c.args.name.now c.args.text.now asks.Put _ _ _ (shown c.registered.result) _ c.in-Ok.ensures.call
-    (λ seen says. put-told _ need c.args.name.now c.args.text.now seen (Ok c.in-Ok.fresh) _ c.requires says c.registered.ensures.shown)
+    step-once _ _ need c.args.name.now c.args.text.now asks.Put _ _ _ (shown c.registered_reply.result) _ c.in-Ok.ensures.call
+    (λ seen says. put-told _ need c.args.name.now c.args.text.now seen (Ok c.in-Ok.fresh) _ c.requires says c.registered_reply.ensures.shown)
 
 pub returns-in-Err-clause-step : goal.returns-in-Err-clause-step
 returns-in-Err-clause-step g c = λ need.

@@ -1,5 +1,5 @@
 use Rattle.std.proofs.Common.{rules, ◌≡◌, ◌≤◌, sym, subst, ◌∙◌, ◌++◌, ℕ, length}
-use Rattle.lf_http.specs.Judge.{request_of}
+use Rattle.lf_http.specs.Judge.{request_of, longest_body}
 use Rattle.lf_session.specs.Boards.{boards_of}
 use Rattle.lf_session.proofs.ShortBodies.{accepted_short}
 use Rattle.lf_session.proofs.Serving.{ends_refused, ends_cut, ends_faulted, ends_starved, serves_request}
@@ -74,4 +74,4 @@ pub reply-requires : goal.reply-requires
 reply-requires g c =
     let head = rw c.in-Ok-Some.field-0-is at c.in-Ok-Some.ensures.head in
     let whole : length c.read_body.new.buffers.body ≡ c.in-Ok-Some.head.length = search rules in
-    record { short = subst (λ (n : ℕ). n ≤ 67108864) (sym whole) (accepted_short (request_of head.0) c.in-Ok-Some.head head.3) }
+    record { short = subst (λ (n : ℕ). n ≤ longest_body) (sym whole) (accepted_short (request_of head.0) c.in-Ok-Some.head head.3) }

@@ -4,7 +4,7 @@ use Rattle.std.proofs.lemmas.List.{drop_all}
 use Rattle.def_histories.specs.declared.operation.Operation.{Operation}
 use Rattle.lf_io.specs.Files.{Files}
 use Rattle.lf_app.specs.Holding.{IsCommitted, AreCommitted}
-use Rattle.lf_app.specs.Answers.{Answer, Refuses, RefusesOne}
+use Rattle.lf_app.specs.Answers.{Answer, RefusesFile, RefusesOne}
 
 -- What comes of the files that are still to come, behind the history that there is now, comes of all files.
 pub record Leads (files : Option Files) (names rest : List (List ℕ)) (before now : List Operation) : Type 0 where
@@ -27,7 +27,7 @@ pub leads_last : (files : Option Files) (names : List (List ℕ)) (before now : 
 leads_last files names before now l = l.all now refl
 
 pub leads_refused : (files : Option Files) (names : List (List ℕ)) (name : List ℕ) (rest : List (List ℕ)) (before now : List Operation) (answer : Answer)
-    → Leads files names (name ∷ rest) before now → Refuses files name now answer → RefusesOne files names before answer
+    → Leads files names (name ∷ rest) before now → RefusesFile files name now answer → RefusesOne files names before answer
 leads_refused files names name rest before now answer l refused = l.one answer (inl refused)
 
 -- ---- the words that are still to come

@@ -23,7 +23,7 @@ use Rattle.lf_app.specs.declared.answer.Passed.{Passed}
 use Rattle.lf_app.specs.declared.answer.Passed.TheVariants as passed
 use Rattle.lf_app.specs.Words.{Command, frame, check, session, command_of}
 use Rattle.lf_app.specs.Holding.{session_seat, HoldsFrame, HoldsPatch, IsCommitted, AreCommitted}
-use Rattle.lf_app.specs.Answers.{Answer, usage, cannot_read, bad_line, bad_frame, over, accepted, document, no_memory, fault_of, passed_by, RefusesFrame, RefusesData, RefusesPatch, Refuses, RefusesOne, answer_by, IsOr, Frames, AnswersTo}
+use Rattle.lf_app.specs.Answers.{Answer, usage, cannot_read, bad_line, bad_frame, over, accepted, document, no_memory, fault_of, passed_by, RefusesFrame, RefusesData, RefusesPatch, RefusesFile, RefusesOne, answer_by, IsOr, Frames, AnswersTo}
 use Rattle.lf_app.specs.Laws.{IsCaused, EachRunSaysOneThing}
 
 -- a step that may answer, and what follows where it doesn't
@@ -169,7 +169,7 @@ patch_refused files history patch accepted refusal cause = absurd refusal
 patch_refused files history patch (document text) refusal cause = absurd refusal
 
 file_refused : (files : Files) (file : List ℕ) (history : List Operation) (answer : Answer)
-    → Refuses (Some files) file history answer → IsCaused files answer → file_result files file history ≡ Err answer
+    → RefusesFile (Some files) file history answer → IsCaused files answer → file_result files file history ≡ Err answer
 file_refused files file history answer (inl refusal) cause =
     ap (λ r. go_on r (patch_result history)) (data_refused files file answer refusal cause)
 file_refused files file history answer (inr (patch, holds, refusal)) cause =

@@ -80,8 +80,8 @@ RefusesPatch history patch no_memory = Unit {0}
 RefusesPatch history patch _ = ⊥
 
 -- A data file isn't committed.
-abbrev pub Refuses : Option Files → List ℕ → List Operation → Answer → Type 0
-Refuses files file history answer =
+abbrev pub RefusesFile : Option Files → List ℕ → List Operation → Answer → Type 0
+RefusesFile files file history answer =
     RefusesData files file answer
     ⊎ ((patch : Patch) × HoldsPatch files file patch × RefusesPatch history patch answer)
 
@@ -89,7 +89,7 @@ Refuses files file history answer =
 abbrev pub RefusesOne : Option Files → List (List ℕ) → List Operation → Answer → Type 0
 RefusesOne files [] history answer = ⊥
 RefusesOne files (file ∷ rest) history answer =
-    Refuses files file history answer
+    RefusesFile files file history answer
     ⊎ ((later : List Operation) × IsCommitted files file history later
     × RefusesOne files rest later answer)
 

@@ -1,5 +1,6 @@
 -- Which runs end well: files are framed, and whole streams are served.
 use Rattle.std.specs.Prelude.{◌≡◌, ◌⊎◌, ◌<◌, ◌-◌, ◌^◌, List, [], ◌∷◌, ◌++◌, ℕ, true, Some, All}
+use Rattle.lf_base.specs.Ascii as ch
 use Rattle.lf_model.specs.declared.document.Doc.TheVariants as doc
 use Rattle.def_histories.specs.declared.operation.Operation.{Operation}
 use Rattle.def_histories.specs.Replay.{newest_dataset}
@@ -34,7 +35,7 @@ Stays before after = (before < most_faults) × (after ≡ before)
 -- the document was printed
 abbrev pub PrintsDocument : Run → List ℕ → Type 0
 PrintsDocument run text =
-    (run.status ≡ 0) × (run.held_after ≡ appended run.held_before (text ++ 10 ∷ []))
+    (run.status ≡ 0) × (run.held_after ≡ appended run.held_before (text ++ ch.line_feed ∷ []))
 
 -- Such files are framed, unless no memory was found, a write failed, or a file that is there can't
 -- be read.

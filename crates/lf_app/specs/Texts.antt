@@ -1,6 +1,8 @@
 -- The exit status of each answer, and the text that it prints.
 use Rattle.std.specs.Prelude.{List, [], ◌∷◌, ◌++◌, ℕ, codes, decimal}
 use Rattle.lf_model.specs.ErrorName.{name_of}
+use Rattle.def_histories.specs.Legal.{most_frame_bytes, most_commits, most_text_bytes, most_quads}
+use Rattle.lf_nquads.specs.Patches.{text_limit}
 use Rattle.lf_names.specs.Names.{kind_name, limit_name, limit_number}
 use Rattle.lf_app.specs.declared.answer.Fault.{Fault}
 use Rattle.lf_app.specs.declared.answer.Fault.TheVariants as fault
@@ -39,11 +41,11 @@ passed_name passed.Quads = codes "quads"
 passed_name (passed.Document limit) = limit_name limit
 
 unfoldable pub passed_number : Passed → ℕ
-passed_number passed.FrameText = 65536
-passed_number passed.PatchText = 67108864
-passed_number passed.Commits = 65536
-passed_number passed.HistoryBytes = 268435456
-passed_number passed.Quads = 400000
+passed_number passed.FrameText = most_frame_bytes
+passed_number passed.PatchText = text_limit
+passed_number passed.Commits = most_commits
+passed_number passed.HistoryBytes = most_text_bytes
+passed_number passed.Quads = most_quads
 passed_number (passed.Document limit) = limit_number limit
 
 -- the texts that are printed in a row

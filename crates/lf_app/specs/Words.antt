@@ -2,6 +2,7 @@
 use Rattle.std.specs.Prelude.{List, [], ◌∷◌, ℕ, nat_eq, Bool, false, if◌then◌else◌, Option, Some, None, codes, map, string_bytes}
 use Rattle.std.specs.List.{list_any}
 use Rattle.std.specs.Cmp.Lexicographic.{pointwise}
+use Rattle.lf_base.specs.Ascii as ch
 use Rattle.lf_app.specs.declared.words.Command.{Command as ReadCommand}
 use Rattle.lf_app.specs.declared.words.Command.TheVariants as read
 
@@ -12,13 +13,10 @@ pub data Command : Type 0 where
   check : List ℕ → Command
   session : Command
 
--- the first byte of a word that is refused wherever it stands: `-`
-abbrev pub dash : ℕ
-dash = 45
-
+-- a word that begins with `-` is refused wherever it stands
 abbrev pub begins_with_dash : List ℕ → Bool
 begins_with_dash [] = false
-begins_with_dash (byte ∷ rest) = nat_eq byte dash
+begins_with_dash (byte ∷ rest) = nat_eq byte ch.hyphen
 
 abbrev pub is_word : List ℕ → List ℕ → Bool
 is_word word name = pointwise nat_eq word name

@@ -6,8 +6,8 @@ ghost use Rattle.def_histories.specs.declared.operation.Operation.TheVariants.{C
 ghost use Rattle.lf_nquads.specs.Patches.{text_limit};
 ghost use Rattle.lf_desk.specs.CommitAnswer.{commit_answer};
 ghost use Rattle.lf_app.specs.Holding.{session_seat, HoldsPatch, IsCommitted, AreCommitted};
-ghost use Rattle.lf_app.specs.Answers.{RefusesData, RefusesPatch, Refuses, RefusesOne};
-ghost use Rattle.lf_app.specs.Counting.{answer_of, faults_by, refusals_by};
+ghost use Rattle.lf_app.specs.Answers.{RefusesData, RefusesPatch, RefusesFile, RefusesOne};
+ghost use Rattle.lf_app.specs.Counting.{answer_said, faults_by, refusals_by};
 ghost use Rattle.lf_app.specs.DataFiles.{StatesPatch, RefusesLines};
 
 use crate::answer::{Passed, Said};
@@ -21,13 +21,13 @@ use lf_rdf::Patch;
 use std::alloc::Global;
 
 /// The most bytes of a data file.
-const PATCH_LIMIT: u64 = 67_108_864;
+pub const PATCH_LIMIT: u64 = 67_108_864;
 
 // The patch that a file's text states.
 fn patch_in<'a>(alloc: Global, file: &'a str, text: &[u8]) -> Result<Patch, Said<'a>>
     requires { length text.now ≤ text_limit }
     ensures read { IfOk result (StatesPatch text.now) }
-    ensures refused { IfErr result (λ said. RefusesLines file.now text.now (answer_of said)) }
+    ensures refused { IfErr result (λ said. RefusesLines file.now text.now (answer_said said)) }
 {
     match read_patch(alloc, text) {
         Ok(patch) => Ok(patch),
@@ -43,10 +43,12 @@ fn read_data_file<'a, F: Shelf>(
     file: &'a str,
 ) -> Result<Patch, Said<'a>>
     ensures read { IfOk result (HoldsPatch (F.files shelf.old) file.now) }
-    ensures refused { IfErr result (λ said. RefusesData (F.files shelf.old) file.now (answer_of said)) }
+    ensures refused { IfErr result
+        (λ said. RefusesData (F.files shelf.old) file.now (answer_said said)) }
     ensures files { F.files shelf.new ≡ F.files shelf.old }
     ensures faults { F.faults shelf.new ≡ faults_by (F.faults shelf.old) result }
-    ensures refusals { F.refusals shelf.new ≡ refusals_by (F.files shelf.old) (F.refusals shelf.old) result }
+    ensures refusals { F.refusals shelf.new
+        ≡ refusals_by (F.files shelf.old) (F.refusals shelf.old) result }
 {
     match shelf.take(alloc, file, PATCH_LIMIT) {
         Ok(text) => patch_in(alloc, file, text.as_slice()),
@@ -58,9 +60,11 @@ fn read_data_file<'a, F: Shelf>(
 
 // Commits a patch, or says which limit of histories it would pass.
 fn commit_patch<'a>(alloc: Global, state: &mut State, patch: Patch) -> Result<(), Said<'a>>
-    ensures accepted { OnOk result ((version : ℕ) × (commit_answer state.old.history patch ≡ Ok version)
+    ensures accepted { OnOk result
+        ((version : ℕ) × (commit_answer state.old.history patch ≡ Ok version)
         × (state.new.history ≡ state.old.history ++ Commit session_seat patch ∷ [])) }
-    ensures refused { IfErr result (λ said. RefusesPatch state.old.history patch (answer_of said)) }
+    ensures refused { IfErr result
+        (λ said. RefusesPatch state.old.history patch (answer_said said)) }
 {
     match state.commit(alloc, SEAT, patch) {
         Ok(_) => Ok(()),
@@ -81,12 +85,14 @@ fn commit_file<'a, F: Shelf>(
     file: &'a str,
     state: &mut State,
 ) -> Result<(), Said<'a>>
-    ensures committed { OnOk result (IsCommitted (F.files shelf.old) file.now state.old.history state.new.history) }
+    ensures committed { OnOk result
+        (IsCommitted (F.files shelf.old) file.now state.old.history state.new.history) }
     ensures refused { IfErr result
-        (λ said. Refuses (F.files shelf.old) file.now state.old.history (answer_of said)) }
+        (λ said. RefusesFile (F.files shelf.old) file.now state.old.history (answer_said said)) }
     ensures files { F.files shelf.new ≡ F.files shelf.old }
     ensures faults { F.faults shelf.new ≡ faults_by (F.faults shelf.old) result }
-    ensures refusals { F.refusals shelf.new ≡ refusals_by (F.files shelf.old) (F.refusals shelf.old) result }
+    ensures refusals { F.refusals shelf.new
+        ≡ refusals_by (F.files shelf.old) (F.refusals shelf.old) result }
 {
     match read_data_file(alloc, shelf, file) {
         Ok(patch) => commit_patch(alloc, state, patch),
@@ -101,14 +107,16 @@ pub fn commit_files<'a, F: Shelf>(
     files: &'a [String],
     state: &mut State,
 ) -> Result<(), Said<'a>>
-    ensures committed { OnOk result (AreCommitted (F.files shelf.old) (map string_bytes files.now) state.old.history
+    ensures committed { OnOk result
+        (AreCommitted (F.files shelf.old) (map string_bytes files.now) state.old.history
         state.new.history) }
     ensures refused { IfErr result (λ said.
         RefusesOne (F.files shelf.old) (map string_bytes files.now) state.old.history
-        (answer_of said)) }
+        (answer_said said)) }
     ensures files { F.files shelf.new ≡ F.files shelf.old }
     ensures faults { F.faults shelf.new ≡ faults_by (F.faults shelf.old) result }
-    ensures refusals { F.refusals shelf.new ≡ refusals_by (F.files shelf.old) (F.refusals shelf.old) result }
+    ensures refusals { F.refusals shelf.new
+        ≡ refusals_by (F.files shelf.old) (F.refusals shelf.old) result }
 {
     for file in files {
         match commit_file(alloc, shelf, file.as_str(), state) {

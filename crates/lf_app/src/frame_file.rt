@@ -5,22 +5,19 @@ ghost use Rattle.def_contexts.specs.FrameValues.{frame_meaning};
 ghost use Rattle.lf_io.specs.Files.{is_there};
 ghost use Rattle.lf_frames.specs.FrameTexts.{accepted, frame_text};
 ghost use Rattle.lf_app.specs.Answers.{RefusesText, RefusesFrame};
-ghost use Rattle.lf_app.specs.Counting.{answer_of, faults_by, refusals_by};
+ghost use Rattle.lf_app.specs.Counting.{answer_said, faults_by, refusals_by};
 ghost use Rattle.lf_app.specs.FrameFiles.{ReadsFrame};
 
 use crate::answer::{Fault, Passed, Said};
-use lf_frames::{FrameTextErr, read_frame};
+use lf_frames::{FrameTextErr, MOST_FRAME_BYTES, read_frame};
 use lf_io::{Shelf, ShelfErr};
 use lf_model::Frame;
 use std::alloc::Global;
 
-/// The most bytes of a frame file.
-const FRAME_LIMIT: u64 = 65_536;
-
 // The frame that a file's text means.
 fn frame_in<'a>(alloc: Global, file: &'a str, text: &[u8]) -> Result<Frame, Said<'a>>
     ensures read { IfOk result (λ frame. frame_text text.now ≡ accepted (frame_meaning frame)) }
-    ensures refused { IfErr result (λ said. RefusesText file.now text.now (answer_of said)) }
+    ensures refused { IfErr result (λ said. RefusesText file.now text.now (answer_said said)) }
 {
     match read_frame(alloc, text) {
         Ok(frame) => Ok(frame),
@@ -51,12 +48,14 @@ pub fn read_frame_file<'a, F: Shelf>(
     file: &'a str,
 ) -> Result<Frame, Said<'a>>
     ensures read { IfOk result (ReadsFrame (F.files shelf.old) file.now) }
-    ensures refused { IfErr result (λ said. RefusesFrame (F.files shelf.old) file.now (answer_of said)) }
+    ensures refused { IfErr result
+        (λ said. RefusesFrame (F.files shelf.old) file.now (answer_said said)) }
     ensures files { F.files shelf.new ≡ F.files shelf.old }
     ensures faults { F.faults shelf.new ≡ faults_by (F.faults shelf.old) result }
-    ensures refusals { F.refusals shelf.new ≡ refusals_by (F.files shelf.old) (F.refusals shelf.old) result }
+    ensures refusals { F.refusals shelf.new
+        ≡ refusals_by (F.files shelf.old) (F.refusals shelf.old) result }
 {
-    match shelf.take(alloc, file, FRAME_LIMIT) {
+    match shelf.take(alloc, file, MOST_FRAME_BYTES as u64) {
         Ok(text) => frame_in(alloc, file, text.as_slice()),
         Err(ShelfErr::Failed) => Err(Said::CannotRead(file)),
         Err(ShelfErr::TooLong) => Err(Said::Over(Passed::FrameText)),

@@ -6,7 +6,7 @@ ghost use Rattle.def_histories.specs.Replay.{newest_dataset};
 ghost use Rattle.def_scratch.specs.Scratch.{scratch_frame};
 ghost use Rattle.lf_app.specs.Words.{frame, check};
 ghost use Rattle.lf_app.specs.Answers.{AnswersTo, IsOr, answer_by};
-ghost use Rattle.lf_app.specs.Counting.{answer_of, faults_after, refusals_after};
+ghost use Rattle.lf_app.specs.Counting.{answer_said, faults_after, refusals_after};
 ghost use Rattle.lf_app.specs.Framing.{FramesOver};
 
 use crate::answer::{Fault, Passed, Said};
@@ -21,7 +21,7 @@ use std::alloc::Global;
 // The document of a frame over the newest version, or what stands in its place.
 fn document_said<'a>(alloc: Global, file: &'a str, frame: &Frame, state: &State) -> Said<'a>
     ensures { IsOr (answer_by file.now (scratch_frame frame.now (newest_dataset state.now.history)))
-        (answer_of result) }
+        (answer_said result) }
 {
     match state.document(alloc, frame) {
         Ok(Doc::Bytes(text)) => Said::Document(text),
@@ -44,11 +44,11 @@ fn frame_data<'a, F: Shelf>(
     state: &mut State,
 ) -> Said<'a>
     ensures frames { FramesOver (F.files shelf.old) file.now (map string_bytes files.now) frame.now
-        state.old.history (answer_of result) }
+        state.old.history (answer_said result) }
     ensures files { F.files shelf.new ≡ F.files shelf.old }
-    ensures faults { F.faults shelf.new ≡ faults_after (F.faults shelf.old) (answer_of result) }
+    ensures faults { F.faults shelf.new ≡ faults_after (F.faults shelf.old) (answer_said result) }
     ensures refusals { F.refusals shelf.new
-        ≡ refusals_after (F.files shelf.old) (F.refusals shelf.old) (answer_of result) }
+        ≡ refusals_after (F.files shelf.old) (F.refusals shelf.old) (answer_said result) }
 {
     match commit_files(alloc, shelf, files, state) {
         Ok(()) => document_said(alloc, file, frame, state),
@@ -64,12 +64,12 @@ fn frame_from_nothing<'a, F: Shelf>(
     files: &'a [String],
     frame: &Frame,
 ) -> Said<'a>
-    ensures frames { FramesOver (F.files shelf.old) file.now (map string_bytes files.now) frame.now []
-        (answer_of result) }
+    ensures frames { FramesOver (F.files shelf.old) file.now (map string_bytes files.now) frame.now
+        [] (answer_said result) }
     ensures files { F.files shelf.new ≡ F.files shelf.old }
-    ensures faults { F.faults shelf.new ≡ faults_after (F.faults shelf.old) (answer_of result) }
+    ensures faults { F.faults shelf.new ≡ faults_after (F.faults shelf.old) (answer_said result) }
     ensures refusals { F.refusals shelf.new
-        ≡ refusals_after (F.files shelf.old) (F.refusals shelf.old) (answer_of result) }
+        ≡ refusals_after (F.files shelf.old) (F.refusals shelf.old) (answer_said result) }
 {
     match State::new(alloc) {
         Ok(mut state) => {
@@ -90,12 +90,12 @@ pub fn frame_files<'a, F: Shelf>(
     file: &'a str,
     files: &'a [String],
 ) -> Said<'a>
-    ensures answers { AnswersTo (F.files shelf.old) (Some (frame file.now (map string_bytes files.now)))
-        (answer_of result) }
+    ensures answers { AnswersTo (F.files shelf.old)
+        (Some (frame file.now (map string_bytes files.now))) (answer_said result) }
     ensures files { F.files shelf.new ≡ F.files shelf.old }
-    ensures faults { F.faults shelf.new ≡ faults_after (F.faults shelf.old) (answer_of result) }
+    ensures faults { F.faults shelf.new ≡ faults_after (F.faults shelf.old) (answer_said result) }
     ensures refusals { F.refusals shelf.new
-        ≡ refusals_after (F.files shelf.old) (F.refusals shelf.old) (answer_of result) }
+        ≡ refusals_after (F.files shelf.old) (F.refusals shelf.old) (answer_said result) }
 {
     match read_frame_file(alloc, shelf, file) {
         Ok(frame) => {
@@ -109,11 +109,11 @@ pub fn frame_files<'a, F: Shelf>(
 
 /// What `check` has to say: the frame is accepted, or what is wrong with it.
 pub fn check_file<'a, F: Shelf>(alloc: Global, shelf: &mut F, file: &'a str) -> Said<'a>
-    ensures answers { AnswersTo (F.files shelf.old) (Some (check file.now)) (answer_of result) }
+    ensures answers { AnswersTo (F.files shelf.old) (Some (check file.now)) (answer_said result) }
     ensures files { F.files shelf.new ≡ F.files shelf.old }
-    ensures faults { F.faults shelf.new ≡ faults_after (F.faults shelf.old) (answer_of result) }
+    ensures faults { F.faults shelf.new ≡ faults_after (F.faults shelf.old) (answer_said result) }
     ensures refusals { F.refusals shelf.new
-        ≡ refusals_after (F.files shelf.old) (F.refusals shelf.old) (answer_of result) }
+        ≡ refusals_after (F.files shelf.old) (F.refusals shelf.old) (answer_said result) }
 {
     match read_frame_file(alloc, shelf, file) {
         Ok(frame) => {

@@ -3,13 +3,24 @@ ghost use Rattle.std.specs.Prelude.{◌≡◌, map, OnOk, OnErr};
 ghost use Rattle.lf_io.specs.Bytes.{appended, AddsPart};
 ghost use Rattle.lf_io.specs.Faults.{count_after};
 ghost use Rattle.lf_app.specs.Texts.{status_said, fault_name, passed_name, passed_number, in_row, six_texts, text_said};
-ghost use Rattle.lf_app.specs.Counting.{answer_of};
+ghost use Rattle.lf_app.specs.Counting.{answer_said};
 ghost use Rattle.lf_app.specs.Runs.{IsPrinted};
 
 use crate::answer::{Fault, Passed, Said};
+use crate::data_files::PATCH_LIMIT;
 use itoa::Buffer;
+use lf_frames::MOST_FRAME_BYTES;
 use lf_io::{Failed, Sink, write_all};
 use lf_names::{kind_name, limit_name, limit_number};
+
+/// The most commits of a history.
+const MOST_COMMITS: u64 = 65_536;
+
+/// The most bytes of the texts of a history.
+const MOST_TEXT_BYTES: u64 = 268_435_456;
+
+/// The most quads of a version.
+const MOST_QUADS: u64 = 400_000;
 
 /// The line that names the words that there are.
 const USAGE: &str =
@@ -46,16 +57,22 @@ fn passed_name(limit: Passed) -> &'static str
 }
 
 // The number of a limit.
-#[tactic(auto, unfolding(crate::specs::Texts::passed_number))]
+#[tactic(auto, unfolding(
+    crate::specs::Texts::passed_number,
+    def_histories::specs::Legal::most_frame_bytes,
+    def_histories::specs::Legal::most_commits,
+    def_histories::specs::Legal::most_text_bytes,
+    def_histories::specs::Legal::most_quads
+))]
 fn passed_number(limit: Passed) -> u64
     ensures { result ≡ passed_number limit }
 {
     match limit {
-        Passed::FrameText => 65_536,
-        Passed::PatchText => 67_108_864,
-        Passed::Commits => 65_536,
-        Passed::HistoryBytes => 268_435_456,
-        Passed::Quads => 400_000,
+        Passed::FrameText => MOST_FRAME_BYTES as u64,
+        Passed::PatchText => PATCH_LIMIT,
+        Passed::Commits => MOST_COMMITS,
+        Passed::HistoryBytes => MOST_TEXT_BYTES,
+        Passed::Quads => MOST_QUADS,
         Passed::Document(limit) => limit_number(limit),
     }
 }
@@ -64,7 +81,7 @@ fn passed_number(limit: Passed) -> u64
 fn print_row<K: Sink>(output: &mut K, texts: &[&str]) -> Result<(), Failed>
     ensures printed { OnOk result
         (K.held output.new ≡ appended (K.held output.old) (in_row (map (λ t. t.now) texts.now))) }
-    ensures cut_short { OnErr result
+    ensures cut { OnErr result
         (AddsPart (K.held output.old) (K.held output.new) (in_row (map (λ t. t.now) texts.now))) }
     ensures cause { K.faults output.new ≡ count_after (K.faults output.old) result }
 {
@@ -90,7 +107,7 @@ fn print_texts<'t, K: Sink>(
     ensures printed { OnOk result (K.held output.new
         ≡ appended (K.held output.old)
         (in_row (six_texts one.now two.now three.now four.now five.now six.now))) }
-    ensures cut_short { OnErr result (AddsPart (K.held output.old) (K.held output.new)
+    ensures cut { OnErr result (AddsPart (K.held output.old) (K.held output.new)
         (in_row (six_texts one.now two.now three.now four.now five.now six.now))) }
     ensures cause { K.faults output.new ≡ count_after (K.faults output.old) result }
 {
@@ -101,9 +118,9 @@ fn print_texts<'t, K: Sink>(
 #[tactic(auto, unfolding(crate::specs::Texts::usage_line))]
 fn print_said<K: Sink>(output: &mut K, said: &Said<'_>) -> Result<(), Failed>
     ensures printed { OnOk result
-        (K.held output.new ≡ appended (K.held output.old) (text_said (answer_of said.now))) }
-    ensures cut_short { OnErr result
-        (AddsPart (K.held output.old) (K.held output.new) (text_said (answer_of said.now))) }
+        (K.held output.new ≡ appended (K.held output.old) (text_said (answer_said said.now))) }
+    ensures cut { OnErr result
+        (AddsPart (K.held output.old) (K.held output.new) (text_said (answer_said said.now))) }
     ensures cause { K.faults output.new ≡ count_after (K.faults output.old) result }
 {
     match said {
@@ -137,8 +154,8 @@ fn print_said<K: Sink>(output: &mut K, said: &Said<'_>) -> Result<(), Failed>
 }
 
 // The exit status of a run that says this.
-fn status_of(said: &Said<'_>) -> u8
-    ensures { result ≡ status_said (answer_of said.now) }
+fn status_said(said: &Said<'_>) -> u8
+    ensures { result ≡ status_said (answer_said said.now) }
 {
     match said {
         Said::Accepted => 0,
@@ -155,11 +172,11 @@ fn status_of(said: &Said<'_>) -> u8
 /// Prints what a run has to say, and gives its exit status.
 #[tactic(auto, using(crate::proofs::Rows::printed_whole, crate::proofs::Rows::printed_part))]
 pub fn tell<K: Sink>(output: &mut K, said: &Said<'_>) -> u8
-    ensures { IsPrinted result (answer_of said.now) (K.held output.old) (K.held output.new)
+    ensures { IsPrinted result (answer_said said.now) (K.held output.old) (K.held output.new)
         (K.faults output.old) (K.faults output.new) }
 {
     match print_said(output, said) {
-        Ok(()) => status_of(said),
+        Ok(()) => status_said(said),
         Err(Failed) => OUTPUT_FAILED,
     }
 }

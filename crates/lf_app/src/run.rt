@@ -41,8 +41,10 @@ pub fn run_words<S: Source, K: Sink, F: Shelf>(
 
     // Only `session` takes anything of the input, and only other words take files. No words change
     // a file.
-    ensures input { is_session (command_of (map string_bytes words.now)) ≡ false → input.new ≡ input.old }
-    ensures shelf { is_session (command_of (map string_bytes words.now)) ≡ true → shelf.new ≡ shelf.old }
+    ensures input { is_session (command_of (map string_bytes words.now)) ≡ false
+        → input.new ≡ input.old }
+    ensures shelf { is_session (command_of (map string_bytes words.now)) ≡ true
+        → shelf.new ≡ shelf.old }
     ensures files { F.files shelf.new ≡ F.files shelf.old }
 {
     match read_words(words) {

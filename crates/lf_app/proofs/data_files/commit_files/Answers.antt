@@ -1,8 +1,8 @@
 use Rattle.std.proofs.Common.{rules, ◌≡◌, ◌∷◌, ℕ, ◌+◌, List, Option, map, drop, subst, ◌∙◌, string_bytes}
 use Rattle.lf_io.specs.Files.{Files}
 use Rattle.lf_app.specs.Holding.{IsCommitted}
-use Rattle.lf_app.specs.Answers.{Refuses}
-use Rattle.lf_app.specs.Counting.{answer_of}
+use Rattle.lf_app.specs.Answers.{RefusesFile}
+use Rattle.lf_app.specs.Counting.{answer_said}
 use Rattle.lf_app.proofs.Leading.{Leads, leads_next, leads_refused, words_from}
 use Rattle.lf_app.proofs.data_files.commit_files.Goals as goal
 
@@ -32,9 +32,9 @@ returns-in-Err-clause-refused g c =
     let files = g.F.Shelf.files c.args.shelf.now in
     let names = map string_bytes words in
     let rest = map string_bytes (drop (i + 1) words) in
-    let answer = answer_of c.in-Err.said in
+    let answer = answer_said c.in-Err.said in
     let front : map string_bytes (drop i words) ≡ string_bytes file ∷ rest = words_from words i file c.loop-file-test.true c.file-item.is in
     let leads = subst (λ (ns : List (List ℕ)). Leads files names ns c.args.state.now.history c.loop-file.state.history) front c.loop-file.invariant.0 in
-    let refused : Refuses (g.F.Shelf.files c.loop-file.shelf) (string_bytes file) c.loop-file.state.history answer = search rules in
-    let is = subst (λ (f : Option Files). Refuses f (string_bytes file) c.loop-file.state.history answer) c.loop-file.invariant.1 refused in
+    let refused : RefusesFile (g.F.Shelf.files c.loop-file.shelf) (string_bytes file) c.loop-file.state.history answer = search rules in
+    let is = subst (λ (f : Option Files). RefusesFile f (string_bytes file) c.loop-file.state.history answer) c.loop-file.invariant.1 refused in
     leads_refused files names (string_bytes file) rest c.args.state.now.history c.loop-file.state.history answer leads is

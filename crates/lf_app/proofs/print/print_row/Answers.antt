@@ -22,8 +22,8 @@ loop-text-preserved g c =
       c.in-Ok.ensures.cause ∙ c.loop-text.invariant.1,
     )
 
-pub returns-in-Err-clause-cut_short : goal.returns-in-Err-clause-cut_short
-returns-in-Err-clause-cut_short g c =
+pub returns-in-Err-clause-cut : goal.returns-in-Err-clause-cut
+returns-in-Err-clause-cut g c =
     let texts = c.args.texts.now in
     let i = c.loop-text.text-index in
     let item = get_or texts i no_text in

@@ -30,11 +30,7 @@ fn frame_from(alloc: Global, json: &Json) -> Result<Frame, FrameTextErr>
 /// The frame that a text means, or the first condition by which it is none. Its maps name
 /// sub-frames by larger numbers than their own. The cost grows with the length of the text as that
 /// of `read_json` and of `expand_frame` do.
-#[tactic(auto, using(
-    crate::proofs::Told::told_not_json,
-    crate::proofs::Told::told_fractional,
-    crate::proofs::Told::told_value
-))]
+#[tactic(auto, using(crate::proofs::Told::told_not_json, crate::proofs::Told::told_fractional, crate::proofs::Told::told_value))]
 pub fn read_frame(alloc: Global, bytes: &[u8]) -> Result<Frame, FrameTextErr>
     ensures told { Tells (frame_text bytes.now) result }
     ensures numbers { IfOk result (λ frame. NamesLargerNumbers frame.nodes) }

@@ -33,11 +33,7 @@ pub trait Sink {
 }
 
 /// Writes all the bytes, piece by piece. Where a write fails, the pieces before it stand.
-#[tactic(auto, using(
-    crate::proofs::Told::appended_nothing,
-    crate::proofs::Told::appended_next,
-    crate::proofs::Told::appended_whole
-))]
+#[tactic(auto, using(crate::proofs::Told::appended_nothing, crate::proofs::Told::appended_next, crate::proofs::Told::appended_whole))]
 pub fn write_all<K: Sink>(sink: &mut K, bytes: &[u8]) -> Result<(), Failed>
     ensures written { OnOk result (K.held sink.new ≡ appended (K.held sink.old) bytes.now) }
     ensures cut { OnErr result ((n : ℕ) × (n < length bytes.now)

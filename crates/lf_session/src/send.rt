@@ -25,11 +25,7 @@ fn sent_body<'a>(method: Method, body: &'a [u8]) -> &'a [u8]
 }
 
 /// Sends a reply to a request with this method. Takes no memory.
-#[tactic(auto, using(
-    lf_io::proofs::Told::appended_twice,
-    lf_io::proofs::Told::part_of_first,
-    lf_io::proofs::Told::part_of_second
-))]
+#[tactic(auto, using(lf_io::proofs::Told::appended_twice, lf_io::proofs::Told::part_of_first, lf_io::proofs::Told::part_of_second))]
 pub fn send<K: Sink>(
     output: &mut K,
     buffers: &mut Buffers,

@@ -57,13 +57,7 @@ fn passed_name(limit: Passed) -> &'static str
 }
 
 // The number of a limit.
-#[tactic(auto, unfolding(
-    crate::specs::Texts::passed_number,
-    def_histories::specs::Legal::most_frame_bytes,
-    def_histories::specs::Legal::most_commits,
-    def_histories::specs::Legal::most_text_bytes,
-    def_histories::specs::Legal::most_quads
-))]
+#[tactic(auto, unfolding(crate::specs::Texts::passed_number, def_histories::specs::Legal::most_frame_bytes, def_histories::specs::Legal::most_commits, def_histories::specs::Legal::most_text_bytes, def_histories::specs::Legal::most_quads))]
 fn passed_number(limit: Passed) -> u64
     ensures { result ≡ passed_number limit }
 {

@@ -10,15 +10,19 @@ use std::test::Fail;
 
 const ROOM: usize = 16_384;
 
-// How the source and the sink behave: the length of their pieces, and which of their calls fails.
+/// How the source and the sink behave: the bytes that the sink has room for, the length of their
+/// pieces, and which of their calls fails.
 #[derive(Clone, Copy)]
-struct Streams {
-    piece: usize,
-    read: u64,
-    write: u64,
+pub struct Streams {
+    pub room: usize,
+    pub piece: usize,
+    pub read: u64,
+    pub write: u64,
 }
 
-const WELL: Streams = Streams {
+/// Streams without faults.
+pub const WELL: Streams = Streams {
+    room: ROOM,
     piece: 4096,
     read: u64::MAX,
     write: u64::MAX,
@@ -72,7 +76,7 @@ fn calls(alloc: Global, failing: u64) -> Result<Calls, Memory> {
 fn session_of(alloc: Global, input: &[u8], streams: &Streams) -> Result<(u8, String), Memory> {
     let piece = streams.piece.max(1);
     let mut source = MemorySource::new(input.to_vec(alloc)?, piece, calls(alloc, streams.read)?);
-    let mut sink = MemorySink::new(alloc, ROOM, piece, calls(alloc, streams.write)?)?;
+    let mut sink = MemorySink::new(alloc, streams.room, piece, calls(alloc, streams.write)?)?;
     let mut shelf = MemoryShelf::new(ListOf::new(alloc), calls(alloc, u64::MAX)?);
     let mut words = Vec::new(alloc);
     words.push(String::from_str(alloc, "session")?)?;
@@ -84,7 +88,8 @@ fn session_of(alloc: Global, input: &[u8], streams: &Streams) -> Result<(u8, Str
     Ok((status, sent))
 }
 
-fn session(alloc: Global, input: &str, streams: &Streams) -> Result<(u8, String), Memory> {
+/// The same of an input that is a text.
+pub fn session(alloc: Global, input: &str, streams: &Streams) -> Result<(u8, String), Memory> {
     session_of(alloc, input.as_bytes(), streams)
 }
 
@@ -99,8 +104,8 @@ fn sending(alloc: Global, what: &str, body: &str) -> Result<String, Memory> {
     Ok(text)
 }
 
-// Texts, one after another.
-fn joined(alloc: Global, texts: &[&str]) -> Result<String, Memory> {
+/// Texts, one after another.
+pub fn joined(alloc: Global, texts: &[&str]) -> Result<String, Memory> {
     let mut all = String::new(alloc);
     for text in texts {
         all.push_str(text)?;
@@ -112,6 +117,13 @@ fn joined(alloc: Global, texts: &[&str]) -> Result<String, Memory> {
 fn is_answered(alloc: Global, input: &str, status: u8, wanted: &str) -> Result<bool, Memory> {
     let (ended, sent) = session(alloc, input, &WELL)?;
     Ok(ended == status && sent.as_str() == wanted)
+}
+
+// Whether these requests get just these replies, and the stream ends clean.
+fn are_answered(alloc: Global, requests: &[&str], replies: &[&str]) -> Result<bool, Memory> {
+    let input = joined(alloc, requests)?;
+    let wanted = joined(alloc, replies)?;
+    is_answered(alloc, input.as_str(), 0, wanted.as_str())
 }
 
 // Whether a request is answered by this line of status and what follows it, and the stream ends
@@ -441,7 +453,7 @@ fn a_failed_read_ends_the_stream(rt: HostRuntime) -> Result<(), Fail> {
         let streams = Streams {
             piece: 1,
             read: call,
-            write: u64::MAX,
+            ..WELL
         };
         let (_, wanted) = replies_to(alloc, call as usize)?;
         let (status, sent) = session(alloc, input.as_str(), &streams)?;
@@ -460,8 +472,8 @@ fn a_failed_write_ends_the_stream(rt: HostRuntime) -> Result<(), Fail> {
     for call in 0..700u64 {
         let streams = Streams {
             piece: 1,
-            read: u64::MAX,
             write: call,
+            ..WELL
         };
         let (status, sent) = session(alloc, input.as_str(), &streams)?;
         let failed = call < all.len() as u64;
@@ -472,8 +484,8 @@ fn a_failed_write_ends_the_stream(rt: HostRuntime) -> Result<(), Fail> {
     // The second write fails, after the first took ten bytes.
     let streams = Streams {
         piece: 10,
-        read: u64::MAX,
         write: 1,
+        ..WELL
     };
     let (status, sent) = session(alloc, input.as_str(), &streams)?;
     assert_eq!(rt; status, 4);
@@ -481,192 +493,64 @@ fn a_failed_write_ends_the_stream(rt: HostRuntime) -> Result<(), Fail> {
     Ok(())
 }
 
+const VERSION: &str = "GET /version HTTP/1.1\r\nHost: x\r\n\r\n";
+
+const BAD_THIRD_LINE: &str =
+    "POST /patch HTTP/1.1\r\nHost: x\r\nContent-Length: 86\r\n\r\n<http://e/a> <http://e/p> \"x\" .\n<http://e/a> <http://e/q> \"y\" .\n<http://e/a> <p> \"x\" .";
+
+const GOOD_THIRD_LINE: &str =
+    "POST /patch HTTP/1.1\r\nHost: x\r\nContent-Length: 95\r\n\r\n<http://e/a> <http://e/p> \"x\" .\n<http://e/a> <http://e/q> \"y\" .\n<http://e/a> <http://e/p> \"x\" .";
+
+// bad-third-line
 #[test]
 fn a_bad_line_leaves_the_version(rt: HostRuntime) -> Result<(), Fail> {
     let alloc = rt.alloc();
-    let front = "<http://e/a> <http://e/p> \"x\" .\n<http://e/a> <http://e/q> \"y\" .\n";
-    let bad = joined(alloc, &[front, "<http://e/a> <p> \"x\" ."])?;
-    let good = joined(alloc, &[front, "<http://e/a> <http://e/p> \"x\" ."])?;
-    let refused = sending(alloc, "POST /patch", bad.as_str())?;
-    let committed = sending(alloc, "POST /patch", good.as_str())?;
-    let version = "GET /version HTTP/1.1\r\nHost: x\r\n\r\n";
-    let input = joined(alloc, &[refused.as_str(), version, committed.as_str()])?;
-    let wanted = joined(
-        alloc,
-        &[
-            "HTTP/1.1 400 Bad Request\r\nContent-Type: application/json\r\nContent-Length: 33\r\n\r\n{\"error\":\"relative IRI\",\"line\":3}",
-            "HTTP/1.1 200 OK\r\nContent-Type: application/json\r\nLd-Version: 0\r\nContent-Length: 13\r\n\r\n{\"version\":0}",
-            PATCHED,
-        ],
-    )?;
-    let (status, sent) = session(alloc, input.as_str(), &WELL)?;
-    assert_eq!(rt; status, 0);
-    assert_eq!(rt; sent.as_str(), wanted.as_str());
+    assert!(rt;
+        are_answered(
+            alloc,
+            &[BAD_THIRD_LINE, VERSION, GOOD_THIRD_LINE],
+            &[
+                "HTTP/1.1 400 Bad Request\r\nContent-Type: application/json\r\nContent-Length: 33\r\n\r\n{\"error\":\"relative IRI\",\"line\":3}",
+                "HTTP/1.1 200 OK\r\nContent-Type: application/json\r\nLd-Version: 0\r\nContent-Length: 13\r\n\r\n{\"version\":0}",
+                PATCHED,
+            ]
+        )?
+    );
     Ok(())
 }
 
-// What a turn of the frame `a` is answered that published this version.
-fn turned(alloc: Global, version: char) -> Result<String, Memory> {
-    let mut text = String::from_str(
-        alloc,
-        "HTTP/1.1 200 OK\r\nContent-Type: application/json\r\nContent-Length: 44\r\n\r\n{\"frame\":\"a\",\"turn\":\"published\",\"version\":",
-    )?;
-    text.push(version)?;
-    text.push_str("}")?;
-    Ok(text)
-}
+const PUT_TAG: &str =
+    "PUT /frames/a HTTP/1.1\r\nHost: x\r\nContent-Length: 51\r\n\r\n{\"@context\":{\"tag\":\"http://t/\"},\"@id\":\"http://e/a\"}";
+
+const PATCH_TAG: &str =
+    "POST /patch HTTP/1.1\r\nHost: x\r\nContent-Length: 70\r\n\r\n<http://e/a> <http://e/n> \"A\" .\n<http://e/a> <http://e/p> <tag:x,1> .\n";
+
+const DELETE_TAG: &str =
+    "POST /patch HTTP/1.1\r\nHost: x\r\nContent-Length: 39\r\n\r\n- <http://e/a> <http://e/p> <tag:x,1> .";
+
+const PUBLISHED_SECOND: &str =
+    "HTTP/1.1 200 OK\r\nContent-Type: application/json\r\nContent-Length: 44\r\n\r\n{\"frame\":\"a\",\"turn\":\"published\",\"version\":2}";
 
 // What a turn published is an error, and the version that it has is told. Where the quad is
-// deleted, the next turn publishes a text.
+// deleted, the next turn publishes a text: confused-prefix.
 #[test]
 fn a_published_error_has_its_version(rt: HostRuntime) -> Result<(), Fail> {
     let alloc = rt.alloc();
-    let frame = "{\"@context\":{\"tag\":\"http://t/\"},\"@id\":\"http://e/a\"}";
-    let first = "<http://e/a> <http://e/n> \"A\" .\n<http://e/a> <http://e/p> <tag:x,1> .\n";
-    let put = sending(alloc, "PUT /frames/a", frame)?;
-    let one = sending(alloc, "POST /patch", first)?;
-    let two = sending(
-        alloc,
-        "POST /patch",
-        "- <http://e/a> <http://e/p> <tag:x,1> .",
-    )?;
-    let second = turned(alloc, '2')?;
-    let input = joined(
-        alloc,
-        &[
-            put.as_str(),
-            one.as_str(),
-            TURN,
-            GET,
-            two.as_str(),
-            TURN,
-            GET,
-        ],
-    )?;
-    let wanted = joined(
-        alloc,
-        &[
-            CREATED,
-            PATCHED,
-            PUBLISHED,
-            CONFUSED,
-            PATCHED_AGAIN,
-            second.as_str(),
-            TAGGED,
-        ],
-    )?;
-    let (status, sent) = session(alloc, input.as_str(), &WELL)?;
-    assert_eq!(rt; status, 0);
-    assert_eq!(rt; sent.as_str(), wanted.as_str());
-    Ok(())
-}
-
-// The replies to a `GET` at a version whose document is that of version 1.
-fn same_document(alloc: Global, version: char) -> Result<String, Memory> {
-    let mut text = String::from_str(
-        alloc,
-        "HTTP/1.1 200 OK\r\nContent-Type: application/ld+json\r\nLd-Version: ",
-    )?;
-    text.push(version)?;
-    text.push_str("\r\nContent-Length: 37\r\n\r\n{\"@id\":\"http://e/a\",\"http://e/p\":\"x\"}")?;
-    Ok(text)
-}
-
-// A patch that changes nothing makes a version, and a turn publishes its document under it.
-#[test]
-fn a_patch_that_changes_nothing_makes_a_version(rt: HostRuntime) -> Result<(), Fail> {
-    let alloc = rt.alloc();
-    let back = sending(
-        alloc,
-        "POST /patch",
-        "- <http://e/a> <http://e/p> \"x\" .\n+ <http://e/a> <http://e/p> \"x\" .\n",
-    )?;
-    let empty = sending(alloc, "POST /patch", "")?;
-    let second = turned(alloc, '2')?;
-    let third = turned(alloc, '3')?;
-    let at_second = same_document(alloc, '2')?;
-    let at_third = same_document(alloc, '3')?;
-    let input = joined(
-        alloc,
-        &[
-            PATCH,
-            PUT,
-            TURN,
-            back.as_str(),
-            TURN,
-            GET,
-            empty.as_str(),
-            TURN,
-            GET,
-            TURN,
-        ],
-    )?;
-    let wanted = joined(
-        alloc,
-        &[
-            PATCHED,
-            CREATED,
-            PUBLISHED,
-            PATCHED_AGAIN,
-            second.as_str(),
-            at_second.as_str(),
-            "HTTP/1.1 200 OK\r\nContent-Type: application/json\r\nLd-Version: 3\r\nContent-Length: 13\r\n\r\n{\"version\":3}",
-            third.as_str(),
-            at_third.as_str(),
-            IDLE,
-        ],
-    )?;
-    let (status, sent) = session(alloc, input.as_str(), &WELL)?;
-    assert_eq!(rt; status, 0);
-    assert_eq!(rt; sent.as_str(), wanted.as_str());
-    Ok(())
-}
-
-const OTHER_CREATED: &str =
-    "HTTP/1.1 201 Created\r\nContent-Type: application/json\r\nContent-Length: 13\r\n\r\n{\"frame\":\"b\"}";
-
-const OTHER_PUBLISHED: &str =
-    "HTTP/1.1 200 OK\r\nContent-Type: application/json\r\nContent-Length: 44\r\n\r\n{\"frame\":\"b\",\"turn\":\"published\",\"version\":1}";
-
-const OTHER_PUBLISHED_AGAIN: &str =
-    "HTTP/1.1 200 OK\r\nContent-Type: application/json\r\nContent-Length: 44\r\n\r\n{\"frame\":\"b\",\"turn\":\"published\",\"version\":2}";
-
-// The frame of the oldest document comes first, and among equals that of the least name.
-#[test]
-fn turns_go_by_age_and_by_name(rt: HostRuntime) -> Result<(), Fail> {
-    let alloc = rt.alloc();
-    let put = sending(alloc, "PUT /frames/b", "{}")?;
-    let again = sending(alloc, "POST /patch", "<http://e/b> <http://e/p> \"y\" .")?;
-    let second = turned(alloc, '2')?;
-    let input = joined(
-        alloc,
-        &[
-            PATCH,
-            put.as_str(),
-            TURN,
-            PUT,
-            again.as_str(),
-            TURN,
-            TURN,
-            TURN,
-        ],
-    )?;
-    let wanted = joined(
-        alloc,
-        &[
-            PATCHED,
-            OTHER_CREATED,
-            OTHER_PUBLISHED,
-            CREATED,
-            PATCHED_AGAIN,
-            second.as_str(),
-            OTHER_PUBLISHED_AGAIN,
-            IDLE,
-        ],
-    )?;
-    let (status, sent) = session(alloc, input.as_str(), &WELL)?;
-    assert_eq!(rt; status, 0);
-    assert_eq!(rt; sent.as_str(), wanted.as_str());
+    assert!(rt;
+        are_answered(
+            alloc,
+            &[PUT_TAG, PATCH_TAG, TURN, GET, DELETE_TAG, TURN, GET],
+            &[
+                CREATED,
+                PATCHED,
+                PUBLISHED,
+                CONFUSED,
+                PATCHED_AGAIN,
+                PUBLISHED_SECOND,
+                TAGGED,
+            ]
+        )?
+    );
     Ok(())
 }
 
@@ -675,23 +559,104 @@ fn turns_go_by_age_and_by_name(rt: HostRuntime) -> Result<(), Fail> {
 #[test]
 fn an_error_of_a_document_has_its_version(rt: HostRuntime) -> Result<(), Fail> {
     let alloc = rt.alloc();
-    let frame = "{\"@context\":{\"tag\":\"http://t/\"},\"@id\":\"http://e/a\"}";
-    let first = "<http://e/a> <http://e/n> \"A\" .\n<http://e/a> <http://e/p> <tag:x,1> .\n";
-    let put = sending(alloc, "PUT /frames/a", frame)?;
-    let one = sending(alloc, "POST /patch", first)?;
-    let two = sending(
-        alloc,
-        "POST /patch",
-        "- <http://e/a> <http://e/p> <tag:x,1> .",
-    )?;
-    let input = joined(
-        alloc,
-        &[put.as_str(), one.as_str(), GET_NOW, two.as_str(), GET_NOW],
-    )?;
-    let wanted = joined(alloc, &[CREATED, PATCHED, CONFUSED, PATCHED_AGAIN, TAGGED])?;
-    let (status, sent) = session(alloc, input.as_str(), &WELL)?;
-    assert_eq!(rt; status, 0);
-    assert_eq!(rt; sent.as_str(), wanted.as_str());
+    assert!(rt;
+        are_answered(
+            alloc,
+            &[PUT_TAG, PATCH_TAG, GET_NOW, DELETE_TAG, GET_NOW],
+            &[CREATED, PATCHED, CONFUSED, PATCHED_AGAIN, TAGGED]
+        )?
+    );
+    Ok(())
+}
+
+const PATCH_BACK: &str =
+    "POST /patch HTTP/1.1\r\nHost: x\r\nContent-Length: 68\r\n\r\n- <http://e/a> <http://e/p> \"x\" .\n+ <http://e/a> <http://e/p> \"x\" .\n";
+
+const PATCH_NOTHING: &str = "POST /patch HTTP/1.1\r\nHost: x\r\nContent-Length: 0\r\n\r\n";
+
+const PATCHED_THIRD: &str =
+    "HTTP/1.1 200 OK\r\nContent-Type: application/json\r\nLd-Version: 3\r\nContent-Length: 13\r\n\r\n{\"version\":3}";
+
+const PUBLISHED_THIRD: &str =
+    "HTTP/1.1 200 OK\r\nContent-Type: application/json\r\nContent-Length: 44\r\n\r\n{\"frame\":\"a\",\"turn\":\"published\",\"version\":3}";
+
+const DOCUMENT_SECOND: &str =
+    "HTTP/1.1 200 OK\r\nContent-Type: application/ld+json\r\nLd-Version: 2\r\nContent-Length: 37\r\n\r\n{\"@id\":\"http://e/a\",\"http://e/p\":\"x\"}";
+
+const DOCUMENT_THIRD: &str =
+    "HTTP/1.1 200 OK\r\nContent-Type: application/ld+json\r\nLd-Version: 3\r\nContent-Length: 37\r\n\r\n{\"@id\":\"http://e/a\",\"http://e/p\":\"x\"}";
+
+// A patch that changes nothing makes a version, and a turn publishes its document under it:
+// idle-commits.
+#[test]
+fn a_patch_that_changes_nothing_makes_a_version(rt: HostRuntime) -> Result<(), Fail> {
+    let alloc = rt.alloc();
+    assert!(rt;
+        are_answered(
+            alloc,
+            &[
+                PATCH,
+                PUT,
+                TURN,
+                PATCH_BACK,
+                TURN,
+                GET,
+                PATCH_NOTHING,
+                TURN,
+                GET,
+                TURN
+            ],
+            &[
+                PATCHED,
+                CREATED,
+                PUBLISHED,
+                PATCHED_AGAIN,
+                PUBLISHED_SECOND,
+                DOCUMENT_SECOND,
+                PATCHED_THIRD,
+                PUBLISHED_THIRD,
+                DOCUMENT_THIRD,
+                IDLE,
+            ]
+        )?
+    );
+    Ok(())
+}
+
+const PUT_OTHER: &str = "PUT /frames/b HTTP/1.1\r\nHost: x\r\nContent-Length: 2\r\n\r\n{}";
+
+const PATCH_OTHER: &str =
+    "POST /patch HTTP/1.1\r\nHost: x\r\nContent-Length: 31\r\n\r\n<http://e/b> <http://e/p> \"y\" .";
+
+const OTHER_CREATED: &str =
+    "HTTP/1.1 201 Created\r\nContent-Type: application/json\r\nContent-Length: 13\r\n\r\n{\"frame\":\"b\"}";
+
+const OTHER_PUBLISHED: &str =
+    "HTTP/1.1 200 OK\r\nContent-Type: application/json\r\nContent-Length: 44\r\n\r\n{\"frame\":\"b\",\"turn\":\"published\",\"version\":1}";
+
+const OTHER_PUBLISHED_SECOND: &str =
+    "HTTP/1.1 200 OK\r\nContent-Type: application/json\r\nContent-Length: 44\r\n\r\n{\"frame\":\"b\",\"turn\":\"published\",\"version\":2}";
+
+// The frame of the oldest document comes first, and among equals that of the least name.
+#[test]
+fn turns_go_by_age_and_by_name(rt: HostRuntime) -> Result<(), Fail> {
+    let alloc = rt.alloc();
+    assert!(rt;
+        are_answered(
+            alloc,
+            &[PATCH, PUT_OTHER, TURN, PUT, PATCH_OTHER, TURN, TURN, TURN],
+            &[
+                PATCHED,
+                OTHER_CREATED,
+                OTHER_PUBLISHED,
+                CREATED,
+                PATCHED_AGAIN,
+                PUBLISHED_SECOND,
+                OTHER_PUBLISHED_SECOND,
+                IDLE,
+            ]
+        )?
+    );
     Ok(())
 }
 

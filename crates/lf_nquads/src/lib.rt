@@ -13,6 +13,7 @@ mod patch;
 mod statement;
 mod write;
 
+pub use characters::{begins_label, is_label_char};
 pub use error::LineErr;
 pub use laws::each_text_is_told;
 pub use patch::read_patch;

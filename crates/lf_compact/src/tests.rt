@@ -1,3 +1,4 @@
+//! Which containers and slots literals, nodes, lists and defaults ask for.
 use crate::node::reverse_pick;
 use crate::value::pick_of;
 use def_selection::Pick;
@@ -44,7 +45,7 @@ fn literal(alloc: Global, datatype: &str, language: Option<Text>) -> Result<Tree
 
 const STRING: &str = "http://www.w3.org/2001/XMLSchema#string";
 
-/// Whether a pick has these containers and these slots.
+// Whether a pick has these containers and these slots.
 fn has(pick: &Pick, containers: &[Container], preferred: &[&str]) -> bool {
     if pick.containers.as_slice().len() != containers.len() {
         return false;
@@ -67,7 +68,7 @@ fn has(pick: &Pick, containers: &[Container], preferred: &[&str]) -> bool {
 
 const SETS: [Container; 2] = [Container::Set, Container::NoContainer];
 
-/// Whether a value of a property asks for these containers and slots.
+// Whether a value of a property asks for these containers and slots.
 fn asks(
     alloc: Global,
     value: &TreeValue,
@@ -177,7 +178,7 @@ fn what_lists_ask_for(rt: HostRuntime) -> Result<(), Fail> {
     Ok(())
 }
 
-/// Whether a default of the number 1 asks for these containers and slots.
+// Whether a default of the number 1 asks for these containers and slots.
 fn scalar_asks(
     alloc: Global,
     datatype: Option<Text>,
@@ -228,7 +229,7 @@ fn what_defaults_ask_for(rt: HostRuntime) -> Result<(), Fail> {
     Ok(())
 }
 
-/// Whether a list of one item asks for these slots, in a list and without a container.
+// Whether a list of one item asks for these slots, in a list and without a container.
 fn list_asks(alloc: Global, item: TreeValue, preferred: &[&str]) -> Result<bool, Memory> {
     let value = TreeValue::List(ListOf::from_vec(vec![in alloc; item]?));
     let lists = [Container::List, Container::NoContainer];
@@ -249,7 +250,7 @@ fn what_lists_of_one_kind_ask_for(rt: HostRuntime) -> Result<(), Fail> {
     Ok(())
 }
 
-/// The inverse of a context that has one term, `x` for `http://e/x`.
+// The inverse of a context that has one term, `x` for `http://e/x`.
 fn inverse_of_one(alloc: Global) -> Result<Inverse, Memory> {
     let term = TermDef {
         name: Text::of(alloc, "x")?,

@@ -10,7 +10,7 @@ use crate::property::FiledProperty;
 use lf_base::{Memory, TryCopy};
 use std::alloc::Global;
 
-/// Values of one property: those under reverse terms, and the others.
+// Values of one property: those under reverse terms, and the others.
 #[derive(Drop)]
 struct SplitValues<'a> {
     turned: Vec<Filed<'a>>,

@@ -1,3 +1,4 @@
+//! Documents of one tree and of several, and the limits at their edges.
 use crate::assemble;
 use lf_base::{ListOf, Memory, Text};
 use lf_model::{
@@ -22,7 +23,7 @@ fn node(alloc: Global, id: Term) -> Tree {
     }
 }
 
-/// A node with a reference under `http://e/p`.
+// A node with a reference under `http://e/p`.
 fn pointing(alloc: Global, id: Term, reference: Term) -> Result<Outcome, Memory> {
     let mut values = ListOf::new(alloc);
     values.push(TreeValue::Node(node(alloc, reference)))?;
@@ -48,7 +49,7 @@ fn frame(alloc: Global, terms: TermDefList, context: Json) -> Frame {
     }
 }
 
-/// The frame of `{"@context":{"@version":1.1,"tag":"http://t/"}}`.
+// The frame of `{"@context":{"@version":1.1,"tag":"http://t/"}}`.
 fn tag_frame(alloc: Global) -> Result<Frame, Memory> {
     let mut terms = TermDefList::new(alloc);
     terms.push(TermDef {
@@ -93,7 +94,7 @@ fn is_over(doc: &Doc, expected: Limit) -> bool {
     }
 }
 
-/// The document of one tree by the frame of a context.
+// The document of one tree by the frame of a context.
 fn one_tree(alloc: Global, reference: &str) -> Result<Doc, Memory> {
     let mut outcomes = OutcomeList::new(alloc);
     outcomes.push(Outcome::NoMatch)?;
@@ -124,8 +125,8 @@ fn blank(alloc: Global, label: &str) -> Result<Term, Memory> {
     Ok(Term::Blank(Text::of(alloc, label)?))
 }
 
-/// The document of two trees that share one blank node, the first of which has an id of its own
-/// that is counted once.
+// The document of two trees that share one blank node, the first of which has an id of its own
+// that is counted once.
 fn two_trees(alloc: Global) -> Result<Doc, Memory> {
     let mut outcomes = OutcomeList::new(alloc);
     outcomes.push(pointing(alloc, blank(alloc, "b")?, blank(alloc, "x")?)?)?;
@@ -146,7 +147,7 @@ fn an_id_is_left_out_where_it_is_counted_once_in_all_trees(rt: HostRuntime) -> R
     Ok(())
 }
 
-/// A tree of a node and this many nulls.
+// A tree of a node and this many nulls.
 fn nulls(alloc: Global, count: u32) -> Result<Outcome, Memory> {
     let mut values = ListOf::new(alloc);
     for _ in 0..count {
@@ -160,7 +161,7 @@ fn nulls(alloc: Global, count: u32) -> Result<Outcome, Memory> {
     Ok(Outcome::Matched(tree))
 }
 
-/// The document of a tree with so many nulls, and of a path that was too deep.
+// The document of a tree with so many nulls, and of a path that was too deep.
 fn limited(alloc: Global, count: u32) -> Result<Doc, Memory> {
     let mut outcomes = OutcomeList::new(alloc);
     outcomes.push(nulls(alloc, count)?)?;
@@ -178,7 +179,7 @@ fn the_first_limit_decides(rt: HostRuntime) -> Result<(), Fail> {
     Ok(())
 }
 
-/// The document of a tree with a text of so many bytes.
+// The document of a tree with a text of so many bytes.
 fn long_text(alloc: Global, bytes: u32) -> Result<Doc, Memory> {
     let mut text = String::new(alloc);
     for _ in 0..bytes {
@@ -190,7 +191,7 @@ fn long_text(alloc: Global, bytes: u32) -> Result<Doc, Memory> {
     assemble(alloc, &plain, &outcomes)
 }
 
-/// A node with a text under `http://e/p`.
+// A node with a text under `http://e/p`.
 fn saying(alloc: Global, text: Text) -> Result<Outcome, Memory> {
     let literal = TreeValue::Literal(Term::Literal {
         lexical: text,
@@ -204,7 +205,7 @@ fn saying(alloc: Global, text: Text) -> Result<Outcome, Memory> {
     Ok(Outcome::Matched(tree))
 }
 
-/// How many bytes a document has.
+// How many bytes a document has.
 fn bytes_of(doc: &Doc) -> usize {
     match doc {
         Doc::Bytes(text) => text.as_str().len(),

@@ -34,7 +34,7 @@ fn shortening_table(alloc: Global) -> Result<TermTable, Memory> {
     })
 }
 
-/// Whether an IRI alone compacts to a text; none is the error.
+// Whether an IRI alone compacts to a text; none is the error.
 fn compacts(
     alloc: Global,
     table: &TermTable,
@@ -103,7 +103,7 @@ fn names(alloc: Global, preferred: &[&str]) -> Result<TextList, Memory> {
     Ok(names)
 }
 
-/// Whether a pick in sets and without a container chooses the term of a name.
+// Whether a pick in sets and without a container chooses the term of a name.
 fn chooses(
     alloc: Global,
     inverse: &Inverse,

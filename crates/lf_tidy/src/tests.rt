@@ -10,7 +10,7 @@ fn blank(alloc: Global, label: &str) -> Result<Term, Memory> {
     Ok(Term::Blank(Text::of(alloc, label)?))
 }
 
-/// A node with this blank id and this blank type.
+// A node with this blank id and this blank type.
 fn node(alloc: Global, id: &str, class: &str) -> Result<Tree, Memory> {
     let mut types: TermList = ListOf::new(alloc);
     types.push(blank(alloc, class)?)?;
@@ -23,7 +23,7 @@ fn node(alloc: Global, id: &str, class: &str) -> Result<Tree, Memory> {
     })
 }
 
-/// Whether the pruned node has an id.
+// Whether the pruned node has an id.
 fn keeps_id(alloc: Global, tree: &Tree, counts: &Counts) -> Result<bool, Memory> {
     Ok(tidy(alloc, tree, counts)?.id.is_some())
 }

@@ -1,17 +1,17 @@
 -- The keys that are kept, gathered one by one, say what the definition says of them all.
 use Rattle.std.proofs.Common.{◌≡◌, Bool, true, false, not, ◌&&◌, ◌||◌, cond, List, [], ◌∷◌, codes, refl, sym, ap, ◌∙◌}
-use Rattle.lf_expand.specs.declared.class.Kept.{Kept}
+use Rattle.lf_expand.specs.declared.class.KeptKeys.{KeptKeys}
 use Rattle.def_contexts.specs.FrameKeys.{Meaning, dropped, keyword, property, reverse_property, is_the_keyword, keep, is_set_only, has_keyword, class_of_kept, value_map, list_map, set_map, node_map}
 use Rattle.lf_expand.specs.KeptKeys.{is_kept, nothing_kept, with_key, kept_keys, is_alone, class_by}
 
-pub kept_more : (keys : Kept) (m : Meaning) (b : Bool) (rest : List Meaning) → is_kept m b ≡ true → kept_keys keys (keep m b rest) ≡ kept_keys (with_key keys m) rest
+pub kept_more : (keys : KeptKeys) (m : Meaning) (b : Bool) (rest : List Meaning) → is_kept m b ≡ true → kept_keys keys (keep m b rest) ≡ kept_keys (with_key keys m) rest
 kept_more keys dropped b rest e = absurd (cc)
 kept_more keys (keyword name) b rest e = refl
 kept_more keys (property iri term) true rest e = absurd (cc)
 kept_more keys (property iri term) false rest e = refl
 kept_more keys (reverse_property iri) b rest e = refl
 
-pub kept_past : (keys : Kept) (m : Meaning) (b : Bool) (rest : List Meaning) → is_kept m b ≡ false → kept_keys keys (keep m b rest) ≡ kept_keys keys rest
+pub kept_past : (keys : KeptKeys) (m : Meaning) (b : Bool) (rest : List Meaning) → is_kept m b ≡ false → kept_keys keys (keep m b rest) ≡ kept_keys keys rest
 kept_past keys dropped b rest e = refl
 kept_past keys (keyword name) b rest e = absurd (cc)
 kept_past keys (property iri term) true rest e = refl
@@ -27,7 +27,7 @@ or_true true = refl
 or_true false = refl
 
 -- two keys are kept
-several : (keys : Kept) (ms : List Meaning) → keys.more ≡ true → is_alone (kept_keys keys ms) ≡ false
+several : (keys : KeptKeys) (ms : List Meaning) → keys.more ≡ true → is_alone (kept_keys keys ms) ≡ false
 several keys [] e = rw e (and_false keys.any keys.set_first)
 several keys (m ∷ ms) e = several (with_key keys m) ms (ap (λ b. b || keys.any) e)
 
@@ -45,7 +45,7 @@ or_step false true b x y = or_first b (x || y)
 or_step false false true x y = sym (or_true x)
 or_step false false false x y = refl
 
-of_values : (keys : Kept) (ms : List Meaning) → (kept_keys keys ms).of_value ≡ (keys.of_value || (has_keyword (codes "@value") ms || has_keyword (codes "@language") ms))
+of_values : (keys : KeptKeys) (ms : List Meaning) → (kept_keys keys ms).of_value ≡ (keys.of_value || (has_keyword (codes "@value") ms || has_keyword (codes "@language") ms))
 of_values keys [] = sym (or_false keys.of_value)
   where
     or_false : (a : Bool) → (a || (false || false)) ≡ a
@@ -59,7 +59,7 @@ or_assoc : (a b c : Bool) → ((a || b) || c) ≡ (a || (b || c))
 or_assoc true b c = refl
 or_assoc false b c = refl
 
-of_lists : (keys : Kept) (ms : List Meaning) → (kept_keys keys ms).of_list ≡ (keys.of_list || has_keyword (codes "@list") ms)
+of_lists : (keys : KeptKeys) (ms : List Meaning) → (kept_keys keys ms).of_list ≡ (keys.of_list || has_keyword (codes "@list") ms)
 of_lists keys [] = sym (or_false keys.of_list)
   where
     or_false : (a : Bool) → (a || false) ≡ a

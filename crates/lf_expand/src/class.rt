@@ -25,7 +25,7 @@ pub enum MapClass {
 // What is known of the keys that are kept: whether one is `@value` or `@language`, whether one is
 // `@list`, whether there is one, whether there are more, and whether the first is `@set`.
 #[derive(Clone, Copy, Debug)]
-struct Kept {
+struct KeptKeys {
     of_value: bool,
     of_list: bool,
     any: bool,
@@ -33,11 +33,11 @@ struct Kept {
     set_first: bool,
 }
 
-impl Kept {
-    fn nothing() -> Kept
+impl KeptKeys {
+    fn nothing() -> KeptKeys
         ensures { result ≡ nothing_kept }
     {
-        Kept {
+        KeptKeys {
             of_value: false,
             of_list: false,
             any: false,
@@ -47,10 +47,10 @@ impl Kept {
     }
 
     // One more key is kept.
-    fn with(self, meaning: &Meaning<'_>) -> Kept
+    fn with(self, meaning: &Meaning<'_>) -> KeptKeys
         ensures { result ≡ with_key self (meaning_data meaning.now) }
     {
-        Kept {
+        KeptKeys {
             of_value: self.of_value
                 || is_the_keyword("@value", meaning)
                 || is_the_keyword("@language", meaning),
@@ -87,7 +87,7 @@ impl Kept {
     }
 }
 
-/// Whether a value stands for null: it is null, alone or in an array or under `@set`.
+// Whether a value stands for null: it is null, alone or in an array or under `@set`.
 #[cycle(nulls)]
 fn stands_for_null(alloc: Global, terms: &Terms<'_>, value: &Json) -> Result<bool, Memory>
     ensures { IfOk result (λ b. b ≡ stands_for_null terms.now.table.now (json_data value.now)) }
@@ -140,11 +140,11 @@ fn set_for_null(alloc: Global, terms: &Terms<'_>, members: &JsonMap) -> Result<b
 
 // The keys that are kept.
 #[cycle(nulls)]
-fn kept_keys(alloc: Global, terms: &Terms<'_>, members: &JsonMap) -> Result<Kept, Memory>
+fn kept_keys(alloc: Global, terms: &Terms<'_>, members: &JsonMap) -> Result<KeptKeys, Memory>
     ensures { IfOk result (λ keys.
         keys ≡ kept_keys nothing_kept (kept terms.now.table.now (members_data members.now))) }
 {
-    let mut keys = Kept::nothing();
+    let mut keys = KeptKeys::nothing();
     for member in members.as_slice() {
         let meaning = meaning_of(alloc, terms, &member.key)?;
         if is_kept(alloc, terms, &meaning, &member.value)? {

@@ -1,3 +1,4 @@
+//! Each error of a frame by its name, and frames read from their texts.
 use crate::{FrameErr, expand_frame};
 use lf_base::{Memory, Text};
 use lf_json::{JsonErr, read_json};

@@ -1,3 +1,4 @@
+//! The least frame, an empty map, and a value that is no map.
 use crate::{FrameErr, expand_frame};
 use lf_model::{Json, JsonMap, LdError};
 use std::test::Fail;

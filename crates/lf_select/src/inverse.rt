@@ -25,10 +25,15 @@ use std::marker::Model;
 /// and API, section 4.3: inverse context). Contracts see it as the context.
 #[derive(Drop)]
 pub struct Inverse {
+    /// The terms of the context.
     table: TermTable,
+    /// The terms of each IRI, by container and slot.
     shelves: Shelves,
+    /// The places of terms by their names.
     names: Names,
+    /// The places of the terms that may be prefixes, by their names.
     prefix_names: Names,
+    /// The terms that may be prefixes, by their IRIs.
     prefixes: Prefixes,
     /// What an IRI asks for that stands without a value.
     lone: Pick,
@@ -88,6 +93,7 @@ impl Inverse {
         chosen_by(alloc, &self.table, &self.shelves, iri, pick)
     }
 
+    // What follows a vocabulary, unless it is a term or a keyword.
     fn unless_taken(&self, rest: Text) -> Option<Text>
         ensures { result ≡ unless_taken self.now (Some rest) }
     {

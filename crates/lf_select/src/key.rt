@@ -11,11 +11,15 @@ use std::alloc::Global;
 /// where their types have no order.
 #[derive(Debug, PartialEq, Eq, PartialOrd, Ord, Drop)]
 pub struct SlotKey {
+    /// The number of the kind: any, language, type.
     kind: u8,
+    /// The number of the container.
     container: u8,
+    /// A language, a datatype or a keyword.
     slot: Text,
 }
 
+// A number for each kind of pick, by which keys are in order.
 fn kind_number(kind: PickKind) -> u8
     ensures { result ≡ kind_number kind }
 {
@@ -26,6 +30,7 @@ fn kind_number(kind: PickKind) -> u8
     }
 }
 
+// A number for each container, by which keys are in order.
 fn container_number(container: Container) -> u8
     ensures { result ≡ container_number container }
 {
@@ -61,6 +66,7 @@ impl TryCopy for SlotKey {
     }
 }
 
+// The key of a slot in a container.
 fn key(alloc: Global, container: Container, kind: PickKind, slot: &str) -> Result<SlotKey, Memory>
     ensures { IfOk result (λ key. key ≡ key_of container kind slot.now) }
 {

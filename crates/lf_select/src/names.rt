@@ -32,6 +32,7 @@ pub fn is_prefix_name(table: &TermTable, prefixes: &Names, name: &Text) -> bool
     prefixes.contains_key(name)
 }
 
+// Adds the name of the term at a place.
 fn add_name(alloc: Global, table: &TermTable, names: &mut Names, place: usize) -> Result<(), Memory>
     requires here { place < length table.now.terms }
     requires named { AreNamedFrom table.now names.old (place + 1) }
@@ -42,6 +43,7 @@ fn add_name(alloc: Global, table: &TermTable, names: &mut Names, place: usize) -
     Ok(())
 }
 
+// Adds the name of the term at a place, where the term may be a prefix.
 fn add_prefix_name(
     alloc: Global,
     table: &TermTable,

@@ -14,6 +14,7 @@ use std::collections::BTreeMap;
 /// A name by its length and then its bytes.
 #[derive(Debug, PartialEq, Eq, PartialOrd, Ord, Drop)]
 pub struct Ranked {
+    /// How many bytes the name has.
     length: usize,
     name: Text,
 }
@@ -27,11 +28,14 @@ pub type Groups = BTreeMap<Vec<u8>, Ranks>;
 /// The terms that may be prefixes, and how many bytes their IRIs have.
 #[derive(Drop)]
 pub struct Prefixes {
+    /// The terms by their IRIs.
     pub groups: Groups,
+    /// The lengths of these IRIs in bytes, each once.
     pub lengths: Vec<usize>,
 }
 
 impl Ranked {
+    // A name with its length.
     fn of(name: Text) -> Ranked
         ensures { result ≡ ranked name }
     {
@@ -66,6 +70,7 @@ fn put_prefix(
     Ok(())
 }
 
+// Adds a length, unless it is there.
 fn add_length(lengths: &mut Vec<usize>, length: usize) -> Result<(), Memory>
     ensures { OnOk result ((n : ℕ) → list_any (λ m. nat_eq m n) lengths.new.items
         ≡ (nat_eq length n || list_any (λ m. nat_eq m n) lengths.old.items)) }
@@ -76,6 +81,7 @@ fn add_length(lengths: &mut Vec<usize>, length: usize) -> Result<(), Memory>
     Ok(())
 }
 
+// Adds the term at a place, where it may be a prefix.
 fn add_prefix(
     alloc: Global,
     table: &TermTable,

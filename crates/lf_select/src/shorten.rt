@@ -28,6 +28,7 @@ pub fn stands_for(iri: &Text, term: &TermDef) -> bool
     }
 }
 
+// A compact IRI: the prefix, a colon and the rest.
 fn joined(alloc: Global, prefix: &str, rest: &str) -> Result<Text, Memory>
     ensures { IfOk result (λ text. text ≡ prefix.now ++ ch.colon ∷ rest.now) }
 {

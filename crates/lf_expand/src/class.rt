@@ -34,6 +34,7 @@ struct KeptKeys {
 }
 
 impl KeptKeys {
+    // No key is kept so far.
     fn nothing() -> KeptKeys
         ensures { result ≡ nothing_kept }
     {
@@ -72,6 +73,7 @@ impl KeptKeys {
         self.any && !self.more && self.set_first
     }
 
+    // The class of a map with these keys.
     fn class(self) -> MapClass
         ensures { class_data result ≡ class_by self }
     {
@@ -124,6 +126,7 @@ fn map_for_null(alloc: Global, terms: &Terms<'_>, members: &JsonMap) -> Result<b
     Ok(keys.is_set_only())
 }
 
+// Whether a value under `@set` stands for null.
 #[cycle(nulls)]
 fn set_for_null(alloc: Global, terms: &Terms<'_>, members: &JsonMap) -> Result<bool, Memory>
     ensures { IfOk result (λ b. b ≡ set_for_null terms.now.table.now (members_data members.now)) }
@@ -197,6 +200,7 @@ pub fn are_all_keywords(alloc: Global, terms: &Terms<'_>, members: &JsonMap) -> 
     Ok(true)
 }
 
+// Whether a key means a keyword.
 fn is_keyword_meaning(meaning: &Meaning<'_>) -> bool
     ensures { result ≡ is_keyword_meaning (meaning_data meaning.now) }
 {

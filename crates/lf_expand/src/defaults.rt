@@ -66,6 +66,7 @@ fn default_given(given: Given) -> DefaultValue
     }
 }
 
+// The default that a scalar is, by the coercion of its place.
 fn default_scalar(
     alloc: Global,
     terms: &Terms<'_>,
@@ -117,6 +118,7 @@ fn default_reference(
     }
 }
 
+// The datatype of a default is an absolute IRI; anything else is an error.
 fn datatype_expanded(iri: Option<Text>) -> Result<Option<Text>, FrameErr>
     ensures { Gives (λ datatype. datatype) result (datatype_expanded iri) }
 {
@@ -178,6 +180,7 @@ fn default_value_scalar(alloc: Global, value: Option<&Json>) -> Result<Scalar, F
     }
 }
 
+// Whether a key may stand beside `@value` in a default.
 fn is_default_key(key: &str) -> bool
     ensures { result ≡ is_default_key key.now }
 {
@@ -222,6 +225,7 @@ fn default_value(
     })
 }
 
+// The default that a map is: a value object or a node reference.
 fn default_map(
     alloc: Global,
     terms: &Terms<'_>,
@@ -257,6 +261,7 @@ fn default_of(
     }
 }
 
+// The defaults of the items of an array, in order.
 fn defaults_of_items(
     alloc: Global,
     terms: &Terms<'_>,

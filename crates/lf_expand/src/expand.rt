@@ -54,6 +54,7 @@ pub fn one_map(json: &Json) -> Result<&[Entry<Json>], FrameErr>
     }
 }
 
+// The members of a map; any other value is an invalid frame.
 fn map_alone(only: &Json) -> Result<&[Entry<Json>], FrameErr>
     ensures { Gives (λ members. members_data members.now) result (map_alone (json_data only.now)) }
 {
@@ -101,9 +102,11 @@ fn has_graph(alloc: Global, terms: &Terms<'_>, members: &[Entry<Json>]) -> Resul
 #[derive(Drop)]
 struct Inner<'a> {
     members: &'a [Entry<Json>],
+    // Whether a key `@context` among them is the context of the frame, and no member.
     has_context: bool,
 }
 
+// The members of a sole `@graph`, or else the members themselves.
 fn unwrapped<'a>(
     alloc: Global,
     terms: &Terms<'_>,

@@ -27,6 +27,7 @@ fn alone(value: &Json) -> &Json
     }
 }
 
+// The value of `@embed` of this name.
 fn embed_named(name: &Text) -> Result<Embed, LdError>
     ensures { result ≡ embed_named name.now }
 {

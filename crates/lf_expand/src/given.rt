@@ -34,6 +34,7 @@ enum Coercion<'a> {
     Uncoerced,
 }
 
+// The type coercion of a term.
 fn coercion_of(term: Option<&TermDef>) -> Coercion<'_>
     ensures { coercion_data result ≡ coercion_of (option_copied term.entry) }
 {
@@ -46,6 +47,7 @@ fn coercion_of(term: Option<&TermDef>) -> Coercion<'_>
     }
 }
 
+// The type coercion that a type mapping names.
 fn coercion_named(name: &Text) -> Coercion<'_>
     ensures { coercion_data result ≡ coercion_named (Some name.now) }
 {

@@ -405,6 +405,7 @@ fn read_reverses(
     }
 }
 
+// Reads the members of `@reverse`, one after another.
 #[cycle(frames)]
 fn read_reverse_members(
     alloc: Global,

@@ -32,6 +32,7 @@ pub fn meaning_of<'a>(alloc: Global, terms: &Terms<'a>, key: &Text) -> Result<Me
     }
 }
 
+// The IRI of a reverse term.
 fn reverse_iri(term: Option<&TermDef>) -> Option<&Text>
     ensures { option_copied result ≡ reverse_iri (option_copied term.entry) }
 {
@@ -47,6 +48,7 @@ fn reverse_iri(term: Option<&TermDef>) -> Option<&Text>
     }
 }
 
+// What a key means by its expanded text.
 fn expanded_meaning<'a>(iri: Option<Text>, term: Option<&'a TermDef>) -> Meaning<'a>
     ensures { meaning_data result ≡ expanded_meaning (option_copied term.entry) iri }
 {

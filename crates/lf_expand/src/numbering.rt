@@ -19,6 +19,7 @@ fn turned(last: u32, number: u32) -> u32
     last.saturating_sub(number)
 }
 
+// The number of a sub-frame, where there is one, counted from the last map.
 fn turned_maybe(last: u32, number: Option<u32>) -> Option<u32>
     ensures { result ≡ option_map (turned last) number }
 {
@@ -28,6 +29,7 @@ fn turned_maybe(last: u32, number: Option<u32>) -> Option<u32>
     }
 }
 
+// Properties with the numbers of their sub-frames counted from the last map.
 fn turned_props(
     alloc: Global,
     last: u32,
@@ -45,6 +47,7 @@ fn turned_props(
     Ok(list)
 }
 
+// Reverse properties with the numbers of their sub-frames counted from the last map.
 fn turned_reverses(
     alloc: Global,
     last: u32,
@@ -62,6 +65,7 @@ fn turned_reverses(
     Ok(list)
 }
 
+// A kind with the number of its item counted from the last map.
 fn turned_kind(last: u32, kind: FrameKind) -> FrameKind
     ensures { result ≡ turned_kind last kind }
 {

@@ -116,6 +116,7 @@ fn scalars_of(
     }
 }
 
+// The scalar of a value pattern that is no array.
 fn scalar_alone(
     alloc: Global,
     terms: &Terms<'_>,
@@ -132,6 +133,7 @@ fn scalar_alone(
     }
 }
 
+// A list of one scalar.
 fn one_scalar(alloc: Global, scalar: Scalar) -> Result<ScalarList, Memory>
     ensures { IfOk result (λ scalars. scalars ≡ scalar ∷ []) }
 {

@@ -104,6 +104,7 @@ impl<'a> Place<'a> {
     }
 }
 
+// Whether values stand under a term with the container `@list`.
 fn has_list_container(term: Option<&TermDef>) -> bool
     ensures { result ≡ is_listed (place_of PlaceKind.Property (option_copied term.entry)) }
 {

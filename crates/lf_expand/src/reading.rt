@@ -174,6 +174,7 @@ fn kind_of(
     }
 }
 
+// The kind of a map without a pattern: any node, or a node with tests.
 fn wild_or_node(flags_alone: bool) -> FrameKind
     ensures { result ≡ wild_or_node flags_alone }
 {
@@ -184,6 +185,7 @@ fn wild_or_node(flags_alone: bool) -> FrameKind
     }
 }
 
+// The number of a frame that was read, where one was.
 fn number_of(found: Found) -> Option<u32>
     ensures { result ≡ number_of found }
 {

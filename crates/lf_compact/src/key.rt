@@ -22,6 +22,7 @@ pub struct Under<'a> {
     pub term: Option<&'a TermDef>,
 }
 
+// The key, and the term behind it, that a pick chooses for an IRI.
 fn under_pick<'a>(
     alloc: Global,
     inverse: &'a Inverse,

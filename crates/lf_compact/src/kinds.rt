@@ -21,6 +21,7 @@ pub enum Kind<'a> {
     Node,
 }
 
+// The kind of a literal: its datatype or its language.
 fn literal_kind(literal: &Term) -> Kind<'_>
     ensures { kind_data result
         ≡ def.plain_kind (def.literal_plain literal.now).datatype
@@ -46,6 +47,7 @@ fn literal_kind(literal: &Term) -> Kind<'_>
     }
 }
 
+// The kind of a default.
 fn default_kind(value: &DefaultValue) -> Kind<'_>
     ensures { kind_data result ≡ def.default_kind value.now }
 {
@@ -66,6 +68,7 @@ fn default_kind(value: &DefaultValue) -> Kind<'_>
     }
 }
 
+// The kind of an item of a list.
 fn item_kind(item: &TreeValue) -> Kind<'_>
     ensures { kind_data result ≡ def.item_kind (entry_data item.now) }
 {
@@ -78,6 +81,7 @@ fn item_kind(item: &TreeValue) -> Kind<'_>
     }
 }
 
+// Whether two kinds are the same.
 fn same_kind(a: &Kind<'_>, b: &Kind<'_>) -> bool
     ensures { result ≡ def.same_kind (kind_data a.now) (kind_data b.now) }
 {
@@ -109,6 +113,7 @@ fn same_kind(a: &Kind<'_>, b: &Kind<'_>) -> bool
     }
 }
 
+// Whether all items are of a kind.
 fn all_of_kind(kind: &Kind<'_>, items: &[TreeValue]) -> bool
     ensures { result ≡ def.all_of_kind (kind_data kind.now) (entries_data items.now) }
 {
@@ -120,6 +125,7 @@ fn all_of_kind(kind: &Kind<'_>, items: &[TreeValue]) -> bool
     true
 }
 
+// The containers that a list asks for: `@list` only where it stands alone.
 fn list_containers(alloc: Global, sole: bool) -> Result<ContainerList, Memory>
     ensures { IfOk result (λ containers. containers ≡ def.list_containers sole) }
 {
@@ -130,6 +136,7 @@ fn list_containers(alloc: Global, sole: bool) -> Result<ContainerList, Memory>
     }
 }
 
+// What a list asks for whose items are of one kind.
 #[tactic(auto, unfolding(def_selection::specs::Keywords::at_id, def_selection::specs::Keywords::at_null))]
 fn kind_pick(alloc: Global, containers: ContainerList, kind: &Kind<'_>) -> Result<Pick, Memory>
     ensures { IfOk result (λ made. made ≡ def.kind_pick containers (kind_data kind.now)) }
@@ -154,6 +161,7 @@ fn kind_pick(alloc: Global, containers: ContainerList, kind: &Kind<'_>) -> Resul
     }
 }
 
+// What a list asks for by its items.
 fn items_pick(alloc: Global, containers: ContainerList, items: &[TreeValue]) -> Result<Pick, Memory>
     ensures { IfOk result (λ made. made ≡ def.list_pick containers (entries_data items.now)) }
 {
@@ -175,6 +183,7 @@ fn items_pick(alloc: Global, containers: ContainerList, items: &[TreeValue]) -> 
     }
 }
 
+/// What a list asks for.
 pub fn list_pick(alloc: Global, sole: bool, items: &TreeValueList) -> Result<Pick, Memory>
     ensures { IfOk result
         (λ made. made ≡ def.list_pick (def.list_containers sole) (entries_data items.now)) }

@@ -23,6 +23,7 @@ pub enum Joined {
 /// The members of a map that is being made.
 pub type Members = BTreeMap<Text, Joined>;
 
+// Whether values are one null.
 fn is_lone_null(values: &[Json]) -> bool
     ensures { result ≡ is_lone_null (map json_data values.now) }
 {
@@ -32,6 +33,7 @@ fn is_lone_null(values: &[Json]) -> bool
     }
 }
 
+// Whether a value is null.
 #[tactic(auto, using(lf_model::proofs::JsonLemmas::json_cases))]
 fn is_null(value: &Json) -> bool
     ensures { result ≡ is_lone_null (json_data value.now ∷ []) }
@@ -79,6 +81,7 @@ fn push_elements(values: &mut Vec<Json>, value: Json) -> Result<(), Memory>
     }
 }
 
+// Adds a value at the end.
 fn push(values: &mut Vec<Json>, value: Json) -> Result<(), Memory>
     ensures { OnOk result (map json_data values.new.items
         ≡ map json_data values.old.items ++ json_data value ∷ []) }

@@ -27,6 +27,7 @@ fn becomes_term(alloc: Global, inverse: &Inverse, iri: &Text) -> Result<bool, Me
     }
 }
 
+// The slots `@id` and `@vocab`, in this order.
 #[tactic(auto, unfolding(def_selection::specs::Keywords::at_id, def_selection::specs::Keywords::at_vocab))]
 fn id_first(alloc: Global) -> Result<TextList, Memory>
     ensures { IfOk result (λ names. names ≡ at_id ∷ at_vocab ∷ []) }
@@ -34,6 +35,7 @@ fn id_first(alloc: Global) -> Result<TextList, Memory>
     Ok(ListOf::from_vec(vec![in alloc; Text::of(alloc, "@id")?, Text::of(alloc, "@vocab")?]?))
 }
 
+// The slots `@vocab` and `@id`, in this order.
 #[tactic(auto, unfolding(def_selection::specs::Keywords::at_id, def_selection::specs::Keywords::at_vocab))]
 fn vocab_first(alloc: Global) -> Result<TextList, Memory>
     ensures { IfOk result (λ names. names ≡ at_vocab ∷ at_id ∷ []) }
@@ -76,6 +78,7 @@ pub fn no_id_pick(alloc: Global, inverse: &Inverse) -> Result<Pick, Memory>
     pick(alloc, sets(alloc)?, PickKind::TypeKind, preferred)
 }
 
+/// What a node asks for.
 pub fn node_pick(alloc: Global, inverse: &Inverse, id: &Option<Term>) -> Result<Pick, Memory>
     ensures { IfOk result (λ made. made ≡ def.node_pick inverse.now id.now) }
 {
@@ -112,6 +115,7 @@ pub fn reverse_pick(alloc: Global, inverse: &Inverse, id: &Option<Term>) -> Resu
     }
 }
 
+/// What a default asks for.
 pub fn default_pick(alloc: Global, inverse: &Inverse, value: &DefaultValue) -> Result<Pick, Memory>
     ensures { IfOk result (λ made. made ≡ def.default_pick inverse.now value.now) }
 {

@@ -9,6 +9,7 @@ use lf_model::Container;
 use lf_rdf::{Term, is_xsd_string};
 use std::alloc::Global;
 
+/// The containers that a node asks for: `@set`, or none.
 pub fn sets(alloc: Global) -> Result<ContainerList, Memory>
     ensures { IfOk result (λ containers. containers ≡ def.sets) }
 {
@@ -36,6 +37,7 @@ pub fn pick(
     })
 }
 
+/// A list of one slot.
 pub fn only(alloc: Global, name: Text) -> Result<TextList, Memory>
     ensures { IfOk result (λ names. names ≡ name ∷ []) }
 {
@@ -79,6 +81,7 @@ pub fn untyped_pick(alloc: Global) -> Result<Pick, Memory>
     pick(alloc, containers, PickKind::LanguageKind, preferred)
 }
 
+/// What a scalar of a default asks for, by its datatype.
 pub fn scalar_pick(alloc: Global, datatype: &Option<Text>) -> Result<Pick, Memory>
     ensures { IfOk result (λ made. made ≡ def.scalar_pick datatype.now) }
 {
@@ -88,6 +91,7 @@ pub fn scalar_pick(alloc: Global, datatype: &Option<Text>) -> Result<Pick, Memor
     }
 }
 
+/// What a literal without a language asks for, by its datatype.
 pub fn string_pick(alloc: Global, datatype: &Text) -> Result<Pick, Memory>
     ensures { IfOk result (λ made. made ≡ def.scalar_pick (def.counted_datatype datatype.now)) }
 {
@@ -98,6 +102,7 @@ pub fn string_pick(alloc: Global, datatype: &Text) -> Result<Pick, Memory>
     }
 }
 
+/// What a literal asks for.
 pub fn literal_pick(alloc: Global, literal: &Term) -> Result<Pick, Memory>
     ensures { IfOk result (λ made. made
         ≡ def.literal_pick (def.literal_plain literal.now).language (def.literal_plain literal.now).datatype) }

@@ -24,6 +24,7 @@ use lf_rdf::Term;
 use lf_select::Inverse;
 use std::alloc::Global;
 
+// Whether all four hold.
 fn all_four(first: bool, second: bool, third: bool, fourth: bool) -> bool
     ensures { result ≡ (first && second && third && fourth) }
 {
@@ -101,6 +102,7 @@ fn map_json(alloc: Global, inverse: &Inverse, tree: &Tree) -> Result<Json, Compa
     Ok(write_node(alloc, inverse, members, graph, properties, reverses)?)
 }
 
+// The nodes of a graph, compacted.
 #[cycle(compacting)]
 fn nodes_json(alloc: Global, inverse: &Inverse, nodes: &TreeList) -> Result<Vec<Json>, CompactErr>
     ensures { Gives json_list result (def.nodes_json inverse.now (nodes_data nodes.now)) }
@@ -115,6 +117,7 @@ fn nodes_json(alloc: Global, inverse: &Inverse, nodes: &TreeList) -> Result<Vec<
     Ok(made)
 }
 
+// The properties of a node, with their values under keys.
 #[cycle(compacting)]
 fn properties_filed<'a>(
     alloc: Global,
@@ -134,6 +137,7 @@ fn properties_filed<'a>(
     Ok(made)
 }
 
+// A property, with its values under keys.
 #[cycle(compacting)]
 fn property_filed<'a>(
     alloc: Global,
@@ -150,6 +154,7 @@ fn property_filed<'a>(
     }
 }
 
+// The values of a property under their keys.
 #[cycle(compacting)]
 fn values_filed<'a>(
     alloc: Global,
@@ -171,6 +176,7 @@ fn values_filed<'a>(
     Ok(made)
 }
 
+// A value under the key that its pick chooses.
 #[cycle(compacting)]
 fn value_filed<'a>(
     alloc: Global,
@@ -218,6 +224,7 @@ fn value_json(
     }
 }
 
+// The items of a list, compacted.
 #[cycle(compacting)]
 fn items_json(
     alloc: Global,
@@ -238,6 +245,7 @@ fn items_json(
     Ok(made)
 }
 
+// The reverse properties of a node, with their nodes under keys.
 #[cycle(compacting)]
 fn reverses_filed<'a>(
     alloc: Global,
@@ -257,6 +265,7 @@ fn reverses_filed<'a>(
     Ok(made)
 }
 
+// A reverse property, with its nodes under keys.
 #[cycle(compacting)]
 fn reverse_filed<'a>(
     alloc: Global,
@@ -272,6 +281,7 @@ fn reverse_filed<'a>(
     }
 }
 
+// The nodes of a reverse property under their keys.
 #[cycle(compacting)]
 fn pointing_filed<'a>(
     alloc: Global,
@@ -292,6 +302,7 @@ fn pointing_filed<'a>(
     Ok(made)
 }
 
+// A node of a reverse property under the key that its pick chooses.
 #[cycle(compacting)]
 fn one_pointing<'a>(
     alloc: Global,

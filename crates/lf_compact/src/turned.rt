@@ -34,6 +34,7 @@ fn is_turned(filed: &Filed<'_>) -> bool
     }
 }
 
+// Splits the values of a property by whether a reverse term was chosen.
 fn split_values<'a>(alloc: Global, values: Vec<Filed<'a>>) -> Result<SplitValues<'a>, Memory>
     ensures turned { IfOk result (λ split. filed_list split.turned ≡ turned_values (filed_list values.entry)) }
     ensures unturned { IfOk result (λ split. filed_list split.unturned ≡ unturned_values (filed_list values.entry)) }

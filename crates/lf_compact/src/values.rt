@@ -30,6 +30,7 @@ pub fn text_json(alloc: Global, characters: &Text) -> Result<Json, Memory>
     Ok(Json::Text(characters.copy(alloc)?))
 }
 
+// The datatype, unless it is `xsd:string`.
 fn counted_datatype(alloc: Global, datatype: &Text) -> Result<Option<Text>, Memory>
     ensures { IfOk result (λ counted. counted ≡ picks.counted_datatype datatype.now) }
 {
@@ -84,6 +85,7 @@ pub fn literal_plain(alloc: Global, literal: &Term) -> Result<Plain, Memory>
     }
 }
 
+// A scalar as a JSON value.
 #[tactic(auto, using(lf_model::proofs::JsonLemmas::json_cases))]
 fn scalar_json(alloc: Global, scalar: &Scalar) -> Result<Json, Memory>
     ensures { IfOk result (λ json. json_data json ≡ picks.scalar_json scalar.now) }
@@ -125,6 +127,7 @@ pub fn coerces_to(term: Option<&TermDef>, coercion: &str) -> bool
     }
 }
 
+// Whether the type mapping of a term is the datatype.
 fn is_coerced(term: Option<&TermDef>, datatype: &Option<Text>) -> bool
     ensures { result ≡ def.is_coerced (option_copied term.entry) datatype.now }
 {
@@ -134,6 +137,7 @@ fn is_coerced(term: Option<&TermDef>, datatype: &Option<Text>) -> bool
     }
 }
 
+// Whether two optional texts are the same.
 fn is_same(one: &Option<Text>, two: &Option<Text>) -> bool
     ensures { result ≡ option_eq text_eq one.now two.now }
 {
@@ -164,6 +168,7 @@ fn has_language_under(table: &TermTable, term: Option<&TermDef>, language: &Opti
     }
 }
 
+// Whether a value is a string.
 #[tactic(auto, using(lf_model::proofs::JsonLemmas::json_cases))]
 fn is_text(value: &Json) -> bool
     ensures { result ≡ def.is_text (json_data value.now) }

@@ -12,6 +12,7 @@ use lf_model::{
 use lf_rdf::{Term, TermList};
 use std::alloc::Global;
 
+// Counts a label where a term is a blank node.
 fn count_term(alloc: Global, counts: &mut Counts, term: &Term) -> Result<(), Memory>
     ensures { OnOk result ((label : List ℕ) → count_in counts.new label
         ≡ count_in counts.old label + count_term label term.now) }
@@ -23,6 +24,7 @@ fn count_term(alloc: Global, counts: &mut Counts, term: &Term) -> Result<(), Mem
     }
 }
 
+// Counts the label of an id.
 fn count_id(alloc: Global, counts: &mut Counts, id: &Option<Term>) -> Result<(), Memory>
     ensures { OnOk result ((label : List ℕ) → count_in counts.new label
         ≡ count_in counts.old label + count_id label id.now) }
@@ -33,6 +35,7 @@ fn count_id(alloc: Global, counts: &mut Counts, id: &Option<Term>) -> Result<(),
     }
 }
 
+// Counts the labels of types.
 fn count_types(alloc: Global, counts: &mut Counts, types: &TermList) -> Result<(), Memory>
     ensures { OnOk result ((label : List ℕ) → count_in counts.new label
         ≡ count_in counts.old label + count_types label types.now) }
@@ -43,6 +46,7 @@ fn count_types(alloc: Global, counts: &mut Counts, types: &TermList) -> Result<(
     Ok(())
 }
 
+// Counts the label of a default.
 fn count_default(alloc: Global, counts: &mut Counts, value: &DefaultValue) -> Result<(), Memory>
     ensures { OnOk result ((label : List ℕ) → count_in counts.new label
         ≡ count_in counts.old label + count_default label value.now) }
@@ -54,6 +58,7 @@ fn count_default(alloc: Global, counts: &mut Counts, value: &DefaultValue) -> Re
     }
 }
 
+// Counts the labels of a node.
 #[cycle(counting)]
 fn count_tree(alloc: Global, counts: &mut Counts, tree: &Tree) -> Result<(), Memory>
     ensures { OnOk result ((label : List ℕ) → count_in counts.new label
@@ -67,6 +72,7 @@ fn count_tree(alloc: Global, counts: &mut Counts, tree: &Tree) -> Result<(), Mem
     Ok(())
 }
 
+// Counts the labels of nodes.
 #[cycle(counting)]
 fn count_trees(alloc: Global, counts: &mut Counts, trees: &TreeList) -> Result<(), Memory>
     ensures { OnOk result ((label : List ℕ) → count_in counts.new label
@@ -78,6 +84,7 @@ fn count_trees(alloc: Global, counts: &mut Counts, trees: &TreeList) -> Result<(
     Ok(())
 }
 
+// Counts the labels in properties.
 #[cycle(counting)]
 fn count_props(alloc: Global, counts: &mut Counts, props: &TreePropList) -> Result<(), Memory>
     ensures { OnOk result ((label : List ℕ) → count_in counts.new label
@@ -89,6 +96,7 @@ fn count_props(alloc: Global, counts: &mut Counts, props: &TreePropList) -> Resu
     Ok(())
 }
 
+// Counts the labels in reverse properties.
 #[cycle(counting)]
 fn count_reverses(
     alloc: Global,
@@ -104,6 +112,7 @@ fn count_reverses(
     Ok(())
 }
 
+// Counts the labels in a value.
 #[cycle(counting)]
 fn count_value(alloc: Global, counts: &mut Counts, value: &TreeValue) -> Result<(), Memory>
     ensures { OnOk result ((label : List ℕ) → count_in counts.new label
@@ -118,6 +127,7 @@ fn count_value(alloc: Global, counts: &mut Counts, value: &TreeValue) -> Result<
     }
 }
 
+// Counts the labels in values.
 #[cycle(counting)]
 fn count_values(alloc: Global, counts: &mut Counts, values: &TreeValueList) -> Result<(), Memory>
     ensures { OnOk result ((label : List ℕ) → count_in counts.new label

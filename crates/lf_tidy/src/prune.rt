@@ -13,6 +13,7 @@ use lf_model::{
 use lf_rdf::Term;
 use std::alloc::Global;
 
+// An id, unless it is a label that is counted once.
 fn prune_id(alloc: Global, counts: &Counts, id: &Option<Term>) -> Result<Option<Term>, Memory>
     ensures { IfOk result (λ pruned. pruned ≡ prune_id (count_in counts.now) id.now) }
 {
@@ -40,6 +41,7 @@ fn prune_id(alloc: Global, counts: &Counts, id: &Option<Term>) -> Result<Option<
     }
 }
 
+// A node without the labels that are counted once.
 #[cycle(pruning)]
 fn prune_tree(alloc: Global, counts: &Counts, tree: &Tree) -> Result<Tree, Memory>
     ensures { IfOk result
@@ -54,6 +56,7 @@ fn prune_tree(alloc: Global, counts: &Counts, tree: &Tree) -> Result<Tree, Memor
     })
 }
 
+// A property with its values pruned.
 #[cycle(pruning)]
 fn prune_prop(alloc: Global, counts: &Counts, prop: &TreeProp) -> Result<TreeProp, Memory>
     ensures { IfOk result (λ pruned.
@@ -65,6 +68,7 @@ fn prune_prop(alloc: Global, counts: &Counts, prop: &TreeProp) -> Result<TreePro
     })
 }
 
+// A reverse property with its nodes pruned.
 #[cycle(pruning)]
 fn prune_reverse(
     alloc: Global,
@@ -80,6 +84,7 @@ fn prune_reverse(
     })
 }
 
+// A value, pruned.
 #[cycle(pruning)]
 fn prune_value(alloc: Global, counts: &Counts, value: &TreeValue) -> Result<TreeValue, Memory>
     ensures { IfOk result
@@ -94,6 +99,7 @@ fn prune_value(alloc: Global, counts: &Counts, value: &TreeValue) -> Result<Tree
     }
 }
 
+// Nodes, pruned.
 #[cycle(pruning)]
 fn prune_trees(alloc: Global, counts: &Counts, trees: &TreeList) -> Result<TreeList, Memory>
     ensures { IfOk result
@@ -106,6 +112,7 @@ fn prune_trees(alloc: Global, counts: &Counts, trees: &TreeList) -> Result<TreeL
     Ok(ListOf::from_vec(pruned))
 }
 
+// Properties, pruned.
 #[cycle(pruning)]
 fn prune_props(alloc: Global, counts: &Counts, props: &TreePropList) -> Result<TreePropList, Memory>
     ensures { IfOk result (λ pruned. properties_data pruned
@@ -118,6 +125,7 @@ fn prune_props(alloc: Global, counts: &Counts, props: &TreePropList) -> Result<T
     Ok(ListOf::from_vec(pruned))
 }
 
+// Reverse properties, pruned.
 #[cycle(pruning)]
 fn prune_reverses(
     alloc: Global,
@@ -134,6 +142,7 @@ fn prune_reverses(
     Ok(ListOf::from_vec(pruned))
 }
 
+// Values, pruned.
 #[cycle(pruning)]
 fn prune_values(
     alloc: Global,

@@ -12,6 +12,7 @@ use lf_model::{Json, JsonList, JsonMap};
 use lf_sorted::{Entry, MapOf};
 use std::alloc::Global;
 
+// Whether a key is `@version`.
 #[tactic(auto, unfolding(def_selection::specs::Keywords::at_version))]
 fn is_version(key: &Text) -> bool
     ensures { result ≡ text_eq key.now at_version }
@@ -35,6 +36,7 @@ fn copy_value(alloc: Global, value: &Json) -> Result<Json, Memory>
     }
 }
 
+// Copies the items of an array.
 #[cycle(copying)]
 fn copy_items(alloc: Global, items: &JsonList) -> Result<JsonList, Memory>
     ensures { IfOk result (λ copied. items_data copied ≡ items_without_version (items_data items.now)) }
@@ -46,6 +48,7 @@ fn copy_items(alloc: Global, items: &JsonList) -> Result<JsonList, Memory>
     Ok(ListOf::from_vec(copied))
 }
 
+// Copies the members of a map.
 #[cycle(copying)]
 fn copy_members(alloc: Global, members: &JsonMap) -> Result<JsonMap, Memory>
     ensures { IfOk result

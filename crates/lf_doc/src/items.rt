@@ -6,6 +6,7 @@ ghost use Rattle.lf_doc.specs.Room.{room_after};
 
 use lf_model::{Tree, TreeList, TreePropList, TreeReverseList, TreeValue, TreeValueList};
 
+// The room behind one item; none where there was no room.
 fn one_item(room: u64) -> Option<u64>
     ensures { result ≡ room_after 1 room }
 {
@@ -25,6 +26,7 @@ pub fn tree_room(tree: &Tree, room: u64) -> Option<u64>
     reverses_room(&tree.reverse, room)
 }
 
+// The room behind the items of nodes.
 #[cycle(counting)]
 #[tactic(auto, unfolding(def_framing::specs::Items::node_items))]
 fn nodes_room(nodes: &TreeList, room: u64) -> Option<u64>
@@ -37,6 +39,7 @@ fn nodes_room(nodes: &TreeList, room: u64) -> Option<u64>
     Some(room)
 }
 
+// The room behind the items of properties.
 #[cycle(counting)]
 #[tactic(auto, unfolding(def_framing::specs::Items::node_items))]
 fn props_room(props: &TreePropList, room: u64) -> Option<u64>
@@ -49,6 +52,7 @@ fn props_room(props: &TreePropList, room: u64) -> Option<u64>
     Some(room)
 }
 
+// The room behind the items of reverse properties.
 #[cycle(counting)]
 #[tactic(auto, unfolding(def_framing::specs::Items::node_items))]
 fn reverses_room(reverses: &TreeReverseList, room: u64) -> Option<u64>
@@ -61,6 +65,7 @@ fn reverses_room(reverses: &TreeReverseList, room: u64) -> Option<u64>
     Some(room)
 }
 
+// The room behind the items of a value.
 #[cycle(counting)]
 #[tactic(auto, unfolding(def_framing::specs::Items::node_items))]
 fn value_room(value: &TreeValue, room: u64) -> Option<u64>
@@ -75,6 +80,7 @@ fn value_room(value: &TreeValue, room: u64) -> Option<u64>
     }
 }
 
+// The room behind the items of values.
 #[cycle(counting)]
 #[tactic(auto, unfolding(def_framing::specs::Items::node_items))]
 fn values_room(values: &TreeValueList, room: u64) -> Option<u64>

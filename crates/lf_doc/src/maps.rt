@@ -33,6 +33,7 @@ fn tidied_map(
     compact_with(alloc, inverse, &tree)
 }
 
+// Adds a map at the end.
 fn keep(maps: &mut Vec<Json>, found: Json) -> Result<(), Memory>
     ensures { OnOk result
         (map json_data maps.new.items ≡ map json_data maps.old.items ++ json_data found ∷ []) }

@@ -30,6 +30,7 @@ pub fn write_key(alloc: Global, sheet: &mut Sheet, key: &Text) -> Result<(), Mem
     sheet.append(alloc, ":")
 }
 
+// Writes `true` or `false`.
 fn write_truth(alloc: Global, sheet: &mut Sheet, truth: bool) -> Result<(), Memory>
     ensures { OnOk result (sheet.new ≡ appended sheet.old (truth_text truth)) }
 {
@@ -40,6 +41,7 @@ fn write_truth(alloc: Global, sheet: &mut Sheet, truth: bool) -> Result<(), Memo
     }
 }
 
+// Writes a whole number in decimals.
 fn write_whole(alloc: Global, sheet: &mut Sheet, whole: i128) -> Result<(), Memory>
     ensures { OnOk result (sheet.new ≡ appended sheet.old (whole_text whole)) }
 {
@@ -63,6 +65,7 @@ pub fn write(alloc: Global, sheet: &mut Sheet, json: &Json) -> Result<(), Memory
     }
 }
 
+// Writes the items of an array.
 #[cycle(writing)]
 fn write_items(alloc: Global, sheet: &mut Sheet, items: &JsonList) -> Result<(), Memory>
     ensures { OnOk result
@@ -78,6 +81,7 @@ fn write_items(alloc: Global, sheet: &mut Sheet, items: &JsonList) -> Result<(),
     sheet.append(alloc, "]")
 }
 
+// Writes the members of a map.
 #[cycle(writing)]
 fn write_members(alloc: Global, sheet: &mut Sheet, members: &JsonMap) -> Result<(), Memory>
     ensures { OnOk result

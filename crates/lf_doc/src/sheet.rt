@@ -49,6 +49,7 @@ impl Sheet {
         }
     }
 
+    // The text of these bytes, or nothing of them past the limit.
     fn of(bytes: Vec<u8>, room: Vec<u8>) -> Sheet
         requires { IsUtf8 bytes.items }
         ensures { result ≡ within bytes.items }

@@ -17,6 +17,7 @@ use lf_select::Inverse;
 use lf_sorted::MapOf;
 use std::alloc::Global;
 
+// The key of the context.
 #[tactic(auto, unfolding(def_selection::specs::Keywords::at_context))]
 fn context_name() -> &'static str
     ensures { result.now ≡ at_context }
@@ -24,6 +25,7 @@ fn context_name() -> &'static str
     "@context"
 }
 
+// The key of the maps, where there is not exactly one.
 #[tactic(auto, unfolding(def_selection::specs::Keywords::at_graph))]
 fn graph_name() -> &'static str
     ensures { result.now ≡ at_graph }
@@ -31,6 +33,7 @@ fn graph_name() -> &'static str
     "@graph"
 }
 
+// The key of the context as a text.
 fn context_key(alloc: Global) -> Result<Text, Memory>
     ensures { IfOk result (λ key. key ≡ at_context) }
 {

@@ -58,6 +58,7 @@ abbrev pub matched :
 matched views self graph frame free path id state =
     perhaps (matches views graph frame id) (self graph id frame free path) state
 
+-- one more key joins the nodes before it, where the frame matches it
 abbrev pub key_next :
     Views → Embedding → GraphRef → Nested → Bool → List Place → List TreeNode → Term → State →
     Result (List TreeNode)
@@ -85,6 +86,7 @@ abbrev pub emitted :
 emitted views self graph path frame held state =
     perhaps (accepts views graph frame held) (emit views self graph path frame held) state
 
+-- one more value joins the outputs before it, where the frame accepts it
 abbrev pub entry_next :
     Views → Embedding → GraphRef → List Place → Nested → List TreeEntry → Value → State →
     Result (List TreeEntry)
@@ -111,6 +113,7 @@ property_values views self graph frame path held state =
     (emit_all views self graph path (sub_for frame held.property) [] (values_of held.values))
     (gives []) state
 
+-- one more property joins those before it, where a value of it was output
 abbrev pub property_next :
     Views → Embedding → GraphRef → Nested → List Place → List (List ℕ × TreeEntries) → Prop →
     State → Result (List (List ℕ × TreeEntries))
@@ -125,6 +128,7 @@ abbrev pub arriving_part :
 arriving_part views self graph id path held state =
     keys_part views self graph held.1 false path (views.pointing graph held.0 id) state
 
+-- one more reverse property joins those before it, where a node arrives by it
 abbrev pub arriving_next :
     Views → Embedding → GraphRef → Term → List Place → Numbered → List (List ℕ × TreeNodes) →
     FrameReverse → State → Result (List (List ℕ × TreeNodes))

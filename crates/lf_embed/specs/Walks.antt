@@ -5,6 +5,7 @@ use Rattle.lf_embed.specs.Places.{place_data}
 use Rattle.def_framing.specs.Results.{State}
 use Rattle.def_framing.specs.Views as framing
 
+-- the nodes embedded so far, and the count of items
 abbrev pub state_of : Walk → State
 state_of walk = record { embedded = map place_data walk.embedded.keys; count = walk.count }
 

@@ -91,6 +91,7 @@ pub fn types_for(
     }
 }
 
+// The types of a node, or those of a type default where it has none.
 fn given_types(alloc: Global, test: &TypeTest, types: &TermList) -> Result<TermList, Memory>
     ensures { IfOk result (λ given. given ≡ types_by test.now types.now) }
 {
@@ -151,6 +152,7 @@ pub fn entering(graph: &GraphRef, id: &Term, frame: &Frame, form: Form, walk: &W
     }
 }
 
+// Whether a graph is all graphs merged.
 fn merged(graph: &GraphRef) -> bool
     ensures { result ≡ is_merged graph.now }
 {

@@ -39,6 +39,7 @@ pub fn default_part(
     form_defaults(alloc, frame, form, values, walk)
 }
 
+// The defaults of a sub-frame; only a map of the table has properties.
 fn form_defaults(
     alloc: Global,
     frame: &Frame,
@@ -63,6 +64,7 @@ fn form_defaults(
     }
 }
 
+// The defaults of these properties of the map `at`, in order.
 fn default_props(
     alloc: Global,
     frame: &Frame,
@@ -91,6 +93,7 @@ fn default_props(
     Ok(done)
 }
 
+// One more property of the map `at` takes its default, or is passed over.
 fn next_default(
     alloc: Global,
     frame: &Frame,
@@ -117,6 +120,7 @@ fn next_default(
     }
 }
 
+// A property takes the default values of its sub-frame.
 #[tactic(auto, using(lf_model::proofs::TreeLemmas::tree_cases))]
 fn add_default(
     alloc: Global,
@@ -145,6 +149,7 @@ fn add_default(
     }
 }
 
+// The default values that a sub-frame states, or null.
 fn form_fallback(
     alloc: Global,
     frame: &Frame,
@@ -176,18 +181,21 @@ fn takes(frame: &Frame, form: Form, sub: Form, property: &Text, values: &TreePro
     !is_output(values, property) && !omits(frame, form, sub)
 }
 
+// Whether a value of a property was output.
 fn is_output(values: &TreePropList, property: &Text) -> bool
     ensures { result ≡ list_any (λ made. text_eq made.0 property.now) (map property_data values.now) }
 {
     any_output(values, property)
 }
 
+// The same, over the properties as the program holds them.
 fn any_output(values: &TreePropList, property: &Text) -> bool
     ensures { result ≡ list_any (λ made. text_eq (property_data made).0 property.now) values.now }
 {
     values.as_slice().iter().any(|made| is_for(made, property))
 }
 
+// Whether an output is of this property.
 #[tactic(auto, using(lf_model::proofs::TreeLemmas::tree_cases))]
 fn is_for(made: &TreeProp, property: &Text) -> bool
     ensures { result ≡ text_eq (property_data made.now).0 property.now }

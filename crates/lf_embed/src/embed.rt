@@ -68,7 +68,7 @@ fn embed<N: Nodes, L: Ledger>(
     )
 }
 
-// The same by a view of the node that is known already, free or not.
+/// The same as `embed`, by a view of the node that is known already, embedded free or not.
 #[cycle(embedding)]
 pub fn embed_viewed<N: Nodes, L: Ledger>(
     alloc: Global,

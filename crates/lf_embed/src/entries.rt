@@ -53,6 +53,7 @@ pub fn emit_literal(
     }
 }
 
+// A node object of an id alone.
 fn reference(alloc: Global, id: &Term) -> Result<Tree, Memory>
     ensures { IfOk result
         (λ made. tree_data made ≡ tree (Some id.now) [] no_nodes no_properties no_reverses) }
@@ -98,6 +99,7 @@ pub fn null_entry(alloc: Global, walk: &mut Walk) -> Result<TreeValueList, Stop>
     }
 }
 
+// A list of one value.
 fn one_entry(alloc: Global, entry: TreeValue) -> Result<TreeValueList, Memory>
     ensures { IfOk result (λ entries. entries ≡ entry ∷ []) }
 {
@@ -106,6 +108,7 @@ fn one_entry(alloc: Global, entry: TreeValue) -> Result<TreeValueList, Memory>
     Ok(entries)
 }
 
+// Each default value is counted and output, in order.
 fn each_fallback(
     alloc: Global,
     values: &DefaultList,
@@ -125,6 +128,7 @@ fn each_fallback(
     Ok(entries)
 }
 
+// One more default value is counted and output.
 fn next_fallback(
     alloc: Global,
     value: &DefaultValue,

@@ -16,8 +16,11 @@ use lf_model::{Embed, Frame, FrameKind, FrameProp, FramePropList};
 /// alone.
 #[derive(Clone, Copy, Debug)]
 pub enum Form {
+    /// Match-none: the property is to be absent.
     Absent,
+    /// The map with this number in the frame's table.
     Row(u32),
+    /// A wildcard that takes over these flags.
     Wild(WildFlags),
 }
 
@@ -25,8 +28,11 @@ pub enum Form {
 /// and require all flags).
 #[derive(Clone, Copy, Debug)]
 pub struct WildFlags {
+    /// Whether a node is embedded always, once in each tree, or never.
     pub embed: Embed,
+    /// Whether only the properties that the frame states are output.
     pub explicit: bool,
+    /// Whether each property of the frame must match, or one of them.
     pub require_all: bool,
 }
 
@@ -84,6 +90,7 @@ pub fn stated_form(frame: &Frame, form: Form, property: &Text) -> Option<Form>
     }
 }
 
+// The sub-frame of the first of these properties of the map `at` that has this name.
 fn stated_in(frame: &Frame, at: u32, props: &FramePropList, property: &Text) -> Option<Form>
     ensures { option_map (form_of frame.now.nodes) result
         ≡ sub_at property.now
@@ -97,6 +104,7 @@ fn stated_in(frame: &Frame, at: u32, props: &FramePropList, property: &Text) -> 
     None
 }
 
+// Whether a property of a frame has this name.
 fn is_named(prop: &FrameProp, property: &Text) -> bool
     ensures { result ≡ text_eq prop.now.property property.now }
 {
@@ -143,6 +151,8 @@ pub fn item_form(frame: &Frame, form: Form) -> Form
     }
 }
 
+// The frame for the items of a list under a list pattern of the map `at`; without an item pattern it
+// is a wildcard.
 fn list_item_form(frame: &Frame, at: u32, item: Option<u32>) -> Form
     ensures { form_of frame.now.nodes result ≡ list_item frame.now.nodes at item }
 {
@@ -184,6 +194,7 @@ pub fn omits(frame: &Frame, form: Form, sub: Form) -> bool
     }
 }
 
+// The `@omitDefault` of a sub-frame, where it is stated.
 fn omit_flag(frame: &Frame, form: Form) -> Option<bool>
     ensures { result ≡ (flags_of (form_of frame.now.nodes form)).omit_default }
 {

@@ -30,7 +30,7 @@ pub use form::{
     Form, WildFlags, flags_for, graph_form, item_form, numbered, omits, outputs, plain_flags,
     stated_form, sub_form,
 };
-pub use outcomes::{PATH_LIMIT, tree};
+pub use outcomes::{DEPTH_LIMIT, tree};
 pub use parts::{add_property, add_reverse, assemble, node_value, push_entry, push_tree};
 pub use place::{Place, same_graph};
 pub use walk::{ITEM_LIMIT, Stop, Walk};

@@ -25,8 +25,8 @@ use lf_rdf::{GraphRef, Term};
 use std::alloc::Global;
 use std::sync::ledger::Ledger;
 
-/// The most nodes on a path.
-pub const PATH_LIMIT: u32 = 256;
+/// The most nodes on a path from the root of a tree, the root included.
+pub const DEPTH_LIMIT: u32 = 256;
 
 /// The outcome of a term by a frame (JSON-LD 1.1 Framing, section 4.2.1: the top frame selects
 /// nodes of the framed graph): the term is no key, it doesn't match, its tree, or the limit of
@@ -55,6 +55,7 @@ pub fn tree<N: Nodes, L: Ledger>(
     made
 }
 
+// The outcome of a term by the top map of a frame, in the framed graph.
 fn outcome_in<N: Nodes, L: Ledger>(
     alloc: Global,
     nodes: &mut N,
@@ -109,6 +110,7 @@ fn new_tree<N: Nodes, L: Ledger>(
     made
 }
 
+// The same, by a walk that is made already.
 fn top_tree<N: Nodes, L: Ledger>(
     alloc: Global,
     nodes: &mut N,
@@ -138,7 +140,7 @@ fn top_tree<N: Nodes, L: Ledger>(
         frame,
         Form::Row(0),
         true,
-        PATH_LIMIT,
+        DEPTH_LIMIT,
         walk,
         steps,
     ) {

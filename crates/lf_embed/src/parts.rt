@@ -41,6 +41,7 @@ pub fn assemble(
     })
 }
 
+// The properties with values, then those with defaults.
 fn joined(values: TreePropList, defaults: TreePropList) -> Result<TreePropList, Memory>
     ensures { IfOk result (λ props. props ≡ values ++ defaults) }
 {

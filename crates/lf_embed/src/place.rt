@@ -14,7 +14,9 @@ use std::hash::{Hash, Hasher};
 /// A node in a graph.
 #[derive(Debug, Drop)]
 pub struct Place {
+    /// The graph in which the node is seen.
     pub graph: GraphRef,
+    /// The node itself, an IRI or a blank node.
     pub id: Term,
 }
 
@@ -66,6 +68,7 @@ pub fn same_graph(one: &GraphRef, two: &GraphRef) -> bool
     }
 }
 
+// The text by which a term is hashed: its IRI, label or lexical form.
 fn text_of(term: &Term) -> &str
     ensures { result.now ≡ term_text term.now }
 {
@@ -76,6 +79,7 @@ fn text_of(term: &Term) -> &str
     }
 }
 
+// The text by which a graph is hashed: its name, or nothing.
 fn text_of_graph(graph: &GraphRef) -> &str
     ensures { result.now ≡ graph_text graph.now }
 {

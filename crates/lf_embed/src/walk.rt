@@ -44,8 +44,11 @@ impl From<Memory> for Stop {
 /// each tree.
 #[derive(Drop)]
 pub struct Walk {
+    // The nodes that this tree has embedded, the first first; each stands once.
     embedded: IndexSet<Place>,
+    // The items of the tree so far, at most `ITEM_LIMIT`.
     count: u32,
+    // The nodes from the tree's root to the node at hand.
     path: Vec<Place>,
 }
 
@@ -142,6 +145,7 @@ impl Walk {
         }
     }
 
+    // Whether a node was embedded in this tree before.
     fn is_embedded(&self, place: &Place) -> bool
         ensures { result ≡ is_in (state_of self.now).embedded (place_data place.now) }
     {
@@ -149,6 +153,7 @@ impl Walk {
     }
 }
 
+// The place of a node in a graph.
 fn place_of(alloc: Global, graph: &GraphRef, id: &Term) -> Result<Place, Memory>
     ensures { IfOk result (λ place. place_data place ≡ record { graph = graph.now; id = id.now }) }
 {
@@ -158,6 +163,7 @@ fn place_of(alloc: Global, graph: &GraphRef, id: &Term) -> Result<Place, Memory>
     })
 }
 
+// Whether a node is one of the steps of a path.
 fn any_step(path: &[Place], graph: &GraphRef, id: &Term) -> bool
     ensures { result
         ≡ list_any
@@ -167,18 +173,21 @@ fn any_step(path: &[Place], graph: &GraphRef, id: &Term) -> bool
     path.iter().any(|step| is_step(step, graph, id))
 }
 
+// Whether a step of a path lies in the graph of this name.
 fn any_in_graph(path: &[Place], name: &Term) -> bool
     ensures { result ≡ list_any (λ step. graph_eq (Named name.now) step.graph) path.now }
 {
     path.iter().any(|step| lies_in_graph(step, name))
 }
 
+// Whether a step is this node of this graph.
 fn is_step(step: &Place, graph: &GraphRef, id: &Term) -> bool
     ensures { result ≡ place_eq (record { graph = graph.now; id = id.now }) (place_data step.now) }
 {
     same_graph(graph, &step.graph) && id.is(&step.id)
 }
 
+// Whether a step lies in the graph of this name.
 fn lies_in_graph(step: &Place, name: &Term) -> bool
     ensures { result ≡ graph_eq (Named name.now) step.now.graph }
 {

@@ -41,10 +41,10 @@ use Rattle.lf_embed.specs.declared.form.Form.TheVariants as form
 use Rattle.lf_embed.specs.declared.walk.Stop.{Stop}
 use Rattle.lf_embed.specs.declared.walk.Stop.TheVariants as stop
 use Rattle.lf_embed.specs.Choices.{taken_by}
-use Rattle.lf_embed.specs.Cycle.{arriving_part, emitted, keys_part, list_output, matched, perhaps, property_values, reverses_part, view_property}
+use Rattle.lf_embed.specs.Cycle.{arriving_part, emit_accepted, emit_list, keys_part, matched, perhaps, property_values, reverses_part, view_property}
 use Rattle.lf_embed.specs.Embeds.{Embeds, IsNearBy, IsOfKeys, IsOfNodeOrView, IsOfProps, has_iri_predicates}
 use Rattle.lf_embed.specs.Forms.{form_of}
-use Rattle.lf_embed.specs.Made.{literal_output}
+use Rattle.lf_embed.specs.Made.{emit_literal}
 use Rattle.lf_embed.specs.Runs.{run_of}
 use Rattle.lf_embed.proofs.CycleProofs.{literal_emitted, list_emitted, reference_emitted, reverses_embedded}
 use Rattle.lf_embed.proofs.Gains.{after_one, known_after, passed, settled, silent, stopped, stopped_after, taken_after, taken_on}
@@ -270,11 +270,11 @@ values_skipped room g frame path held state output tells is =
 pub reference_value :
     {dataset : List Quad} {before after : Option (List Question)} {first last : ℕ} (room : ℕ) (g : GraphRef) (path : List Place) (frame : Nested)
     (value : Value) (id : Term) (state : State) (made : Option (Result (Option TreeEntry))) → value ≡ v.Ref id →
-    Embeds dataset before after first last (reversed_in frame) (IsOfNode g id) (λ views. emitted views (embed views room) g path frame (reference id) state) made →
-    Embeds dataset before after first last (reversed_in frame) (IsOfValue g (value_data value)) (λ views. emitted views (embed views room) g path frame (value_data value) state) made
+    Embeds dataset before after first last (reversed_in frame) (IsOfNode g id) (λ views. emit_accepted views (embed views room) g path frame (reference id) state) made →
+    Embeds dataset before after first last (reversed_in frame) (IsOfValue g (value_data value)) (λ views. emit_accepted views (embed views room) g path frame (value_data value) state) made
 reference_value {dataset = dataset} {before = before} {after = after} {first = first} {last = last} room g path frame value id state made is gained =
     subst
-    (λ held. Embeds dataset before after first last (reversed_in frame) (IsOfValue g held) (λ views. emitted views (embed views room) g path frame held state) made)
+    (λ held. Embeds dataset before after first last (reversed_in frame) (IsOfValue g held) (λ views. emit_accepted views (embed views room) g path frame held state) made)
     (sym (ap value_data is ∙ value_data-Ref id)) gained
 
 value_wide :
@@ -286,9 +286,9 @@ pub value_refused :
     {dataset : List Quad} {before after : Option (List Question)} {first last : ℕ} (room : ℕ) (g : GraphRef) (path : List Place) (frame : Nested)
     (held : ListValue) (state : State) (fits : Bool) → fits ≡ false →
     Learns (IsNearOneFor dataset frame (IsOfValue g held)) dataset before after first last (λ d. accepts (of_dataset d) g frame held) fits →
-    Embeds dataset before after first last (reversed_in frame) (IsOfValue g held) (λ views. emitted views (embed views room) g path frame held state) (Some (gives None state))
+    Embeds dataset before after first last (reversed_in frame) (IsOfValue g held) (λ views. emit_accepted views (embed views room) g path frame held state) (Some (gives None state))
 value_refused {dataset = dataset} room g path frame held state fits is one =
-    settled (λ views. emitted views (embed views room) g path frame held state) (gives None state) one (λ e. value_wide dataset frame g held)
+    settled (λ views. emit_accepted views (embed views room) g path frame held state) (gives None state) one (λ e. value_wide dataset frame g held)
     (λ other e.
     ap (λ b. perhaps b (emit (of_dataset other) (embed (of_dataset other) room) g path frame held) state) (sym is ∙ e))
 
@@ -296,15 +296,15 @@ pub literal_value :
     {dataset : List Quad} {before after : Option (List Question)} {first last : ℕ} (room : ℕ) (g : GraphRef) (path : List Place) (frame : Nested)
     (value : Value) (term : Term) (state : State) (made : Option (Result (Option TreeEntry))) (fits : Bool) → value ≡ v.Literal term → fits ≡ true →
     Learns (IsNearOneFor dataset frame (IsOfValue g (value_data value))) dataset before after first last (λ d. accepts (of_dataset d) g frame (value_data value)) fits →
-    IfSome made (λ r. r ≡ literal_output term state) →
-    Embeds dataset before after first last (reversed_in frame) (IsOfValue g (value_data value)) (λ views. emitted views (embed views room) g path frame (value_data value) state) made
+    IfSome made (λ r. r ≡ emit_literal term state) →
+    Embeds dataset before after first last (reversed_in frame) (IsOfValue g (value_data value)) (λ views. emit_accepted views (embed views room) g path frame (value_data value) state) made
 literal_value {dataset = dataset} room g path frame value term state made fits is passes one run =
-    known_after (λ views. emitted views (embed views room) g path frame (value_data value) state) made (literal_output term state) run one
+    known_after (λ views. emit_accepted views (embed views room) g path frame (value_data value) state) made (emit_literal term state) run one
     (λ e. value_wide dataset frame g (value_data value))
     (λ other e.
     literal_emitted (of_dataset other) (embed (of_dataset other) room) g path frame term state true
     (sym (subst (λ held. true ≡ accepts (of_dataset other) g frame held) (ap value_data is ∙ value_data-Literal term) (sym passes ∙ e)))
-    ∙ ap (λ held. emitted (of_dataset other) (embed (of_dataset other) room) g path frame held state) (sym (ap value_data is ∙ value_data-Literal term)))
+    ∙ ap (λ held. emit_accepted (of_dataset other) (embed (of_dataset other) room) g path frame held state) (sym (ap value_data is ∙ value_data-Literal term)))
 
 pub list_value :
     {dataset later : List Quad} {before middle after : Option (List Question)} {first second last : ℕ} (room : ℕ) (g : GraphRef) (path : List Place)
@@ -312,11 +312,11 @@ pub list_value :
     value ≡ v.List items → fits ≡ true →
     Learns (IsNearOneFor dataset frame (IsOfValue g (value_data value))) dataset before middle first second (λ d. accepts (of_dataset d) g frame (value_data value)) fits →
     later ≡ dataset →
-    Embeds later middle after second last (reversed_in frame) (IsOfValues g (map value_data items)) (λ views. list_output views (embed views room) g path frame (map value_data items) state) made →
-    Embeds dataset before after first last (reversed_in frame) (IsOfValue g (value_data value)) (λ views. emitted views (embed views room) g path frame (value_data value) state) made
+    Embeds later middle after second last (reversed_in frame) (IsOfValues g (map value_data items)) (λ views. emit_list views (embed views room) g path frame (map value_data items) state) made →
+    Embeds dataset before after first last (reversed_in frame) (IsOfValue g (value_data value)) (λ views. emit_accepted views (embed views room) g path frame (value_data value) state) made
 list_value {dataset = dataset} room g path frame value items state made fits is passes one stays two =
-    after_one (λ views. list_output views (embed views room) g path frame (map value_data items) state)
-    (λ views. emitted views (embed views room) g path frame (value_data value) state) made one stays two
+    after_one (λ views. emit_list views (embed views room) g path frame (map value_data items) state)
+    (λ views. emit_accepted views (embed views room) g path frame (value_data value) state) made one stays two
     (λ e. value_wide dataset frame g (value_data value))
     (λ e.
     same_by dataset (reversed_in frame) (reversed_in frame) (IsOfValues g (map value_data items)) (IsOfValue g (value_data value)) (themselves (reversed_in frame))
@@ -324,7 +324,7 @@ list_value {dataset = dataset} room g path frame value items state made fits is 
     (λ other e.
     list_emitted (of_dataset other) (embed (of_dataset other) room) g path frame (map value_data items) state
     (sym (subst (λ held. true ≡ accepts (of_dataset other) g frame held) (ap value_data is ∙ value_data-List items) (sym passes ∙ e)))
-    ∙ ap (λ held. emitted (of_dataset other) (embed (of_dataset other) room) g path frame held state) (sym (ap value_data is ∙ value_data-List items)))
+    ∙ ap (λ held. emit_accepted (of_dataset other) (embed (of_dataset other) room) g path frame held state) (sym (ap value_data is ∙ value_data-List items)))
 
 -- ---- a list
 
@@ -332,12 +332,12 @@ pub no_list_left :
     {T : Type 0} {dataset : List Quad} {told : Option (List Question)} {steps : ℕ} {reversed : List (List ℕ)} {Is : Term → Type 0}
     (f : T → Option TreeEntry) (room : ℕ) (g : GraphRef) (path : List Place) (frame : Nested) (items : List ListValue) (state after : State) (e : Stop) →
     (e ≡ stop.Over TreeItems) × (item state ≡ over TreeItems) →
-    Embeds dataset told told steps steps reversed Is (λ views. list_output views (embed views room) g path frame items state) (run_of f (Err e) after)
+    Embeds dataset told told steps steps reversed Is (λ views. emit_list views (embed views room) g path frame items state) (run_of f (Err e) after)
 no_list_left {dataset = dataset} {told = told} {steps = steps} {reversed = reversed} {Is = Is} f room g path frame items state after e full =
     subst
-    (λ s. Embeds dataset told told steps steps reversed Is (λ views. list_output views (embed views room) g path frame items state) (run_of f (Err s) after))
+    (λ s. Embeds dataset told told steps steps reversed Is (λ views. emit_list views (embed views room) g path frame items state) (run_of f (Err s) after))
     (sym full.0)
-    (silent (λ views. list_output views (embed views room) g path frame items state) (over TreeItems)
+    (silent (λ views. emit_list views (embed views room) g path frame items state) (over TreeItems)
     (λ views.
     ap
     (λ r.
@@ -351,7 +351,7 @@ items_of :
     item state ≡ gives tt counted → later_path ≡ path → sub ≡ item_frame frame → lent ≡ items →
     then (emit_all views (embed views room) g later_path sub [] (values_of (map value_data lent)) counted)
     (λ entries last_state. gives (Some (list_entry (entries_of entries))) last_state)
-    ≡ list_output views (embed views room) g path frame (map value_data items) state
+    ≡ emit_list views (embed views room) g path frame (map value_data items) state
 items_of views room g path later_path frame sub items lent state counted count steps same lends =
     ap (λ p. then (emit_all views (embed views room) g p sub [] (values_of (map value_data lent)) counted) (λ entries last_state. gives (Some (list_entry (entries_of entries))) last_state)) steps
     ∙ ap (λ s. then (emit_all views (embed views room) g path s [] (values_of (map value_data lent)) counted) (λ entries last_state. gives (Some (list_entry (entries_of entries))) last_state)) same
@@ -376,10 +376,10 @@ pub list_over :
     (room : ℕ) (g : GraphRef) (path later_path : List Place) (frame sub : Nested) (items lent : List Value) (state counted one two : State) (e : Stop) →
     item state ≡ gives tt counted → later_path ≡ path → sub ≡ item_frame frame → lent ≡ items →
     Embeds dataset before after first last (reversed_in sub) (IsOfValues g (map value_data lent)) (λ views. emit_all views (embed views room) g later_path sub [] (values_of (map value_data lent)) counted) (run_of f (Err e) one) →
-    Embeds dataset before after first last (reversed_in frame) (IsOfValues g (map value_data items)) (λ views. list_output views (embed views room) g path frame (map value_data items) state) (run_of h (Err e) two)
+    Embeds dataset before after first last (reversed_in frame) (IsOfValues g (map value_data items)) (λ views. emit_list views (embed views room) g path frame (map value_data items) state) (run_of h (Err e) two)
 list_over {dataset = dataset} f h room g path later_path frame sub items lent state counted one two e count steps same lends gained =
     stopped f h (λ views. emit_all views (embed views room) g later_path sub [] (values_of (map value_data lent)) counted)
-    (λ views. list_output views (embed views room) g path frame (map value_data items) state) e one two gained (list_wide dataset frame sub g items lent same lends)
+    (λ views. emit_list views (embed views room) g path frame (map value_data items) state) e one two gained (list_wide dataset frame sub g items lent same lends)
     (λ views limit k.
     ap (λ r. then r (λ entries last_state. gives (Some (list_entry (entries_of entries))) last_state)) k
     ∙ items_of views room g path later_path frame sub items lent state counted count steps same lends)
@@ -389,10 +389,10 @@ pub list_made :
     (frame sub : Nested) (items lent : List Value) (state counted final : State) (entries : List TreeEntry) (made : Option TreeEntry) →
     item state ≡ gives tt counted → later_path ≡ path → sub ≡ item_frame frame → lent ≡ items → made ≡ Some (list_entry (entries_of entries)) →
     Embeds dataset before after first last (reversed_in sub) (IsOfValues g (map value_data lent)) (λ views. emit_all views (embed views room) g later_path sub [] (values_of (map value_data lent)) counted) (Some (gives entries final)) →
-    Embeds dataset before after first last (reversed_in frame) (IsOfValues g (map value_data items)) (λ views. list_output views (embed views room) g path frame (map value_data items) state) (Some (gives made final))
+    Embeds dataset before after first last (reversed_in frame) (IsOfValues g (map value_data items)) (λ views. emit_list views (embed views room) g path frame (map value_data items) state) (Some (gives made final))
 list_made {dataset = dataset} room g path later_path frame sub items lent state counted final entries made count steps same lends is gained =
     taken_on (λ views. emit_all views (embed views room) g later_path sub [] (values_of (map value_data lent)) counted)
-    (λ views. list_output views (embed views room) g path frame (map value_data items) state) (gives entries final) (gives made final) gained
+    (λ views. emit_list views (embed views room) g path frame (map value_data items) state) (gives entries final) (gives made final) gained
     (list_wide dataset frame sub g items lent same lends)
     (λ views k.
     ap (λ m. gives m final) is
@@ -405,9 +405,9 @@ pub reference_left :
     {dataset : List Quad} {told : Option (List Question)} {steps : ℕ} {reversed : List (List ℕ)} {Is : Term → Type 0} (room : ℕ) (g : GraphRef)
     (path : List Place) (frame : Nested) (id : Term) (state : State) (taken : ReferenceRule) → taken ≡ rule.Never →
     ((views : Views) (graph : GraphRef) (x : Term) → accepts views graph frame (reference x) ≡ taken_by taken (matches views graph frame x)) →
-    Embeds dataset told told steps steps reversed Is (λ views. emitted views (embed views room) g path frame (reference id) state) (Some (gives None state))
+    Embeds dataset told told steps steps reversed Is (λ views. emit_accepted views (embed views room) g path frame (reference id) state) (Some (gives None state))
 reference_left room g path frame id state taken is tells =
-    silent (λ views. emitted views (embed views room) g path frame (reference id) state) (gives None state)
+    silent (λ views. emit_accepted views (embed views room) g path frame (reference id) state) (gives None state)
     (λ views.
     ap (λ b. perhaps b (emit views (embed views room) g path frame (reference id)) state)
     (sym (tells views g id ∙ ap (λ t. taken_by t (matches views g frame id)) is)))
@@ -418,9 +418,9 @@ pub reference_over :
     taken ≡ rule.Always →
     ((views : Views) (graph : GraphRef) (x : Term) → accepts views graph frame (reference x) ≡ taken_by taken (matches views graph frame x)) →
     Embeds dataset before after first last (reversed_in frame) (IsOfNode g id) (λ views. embed views room g id frame false path state) (run_of f (Err e) one) →
-    Embeds dataset before after first last (reversed_in frame) (IsOfNode g id) (λ views. emitted views (embed views room) g path frame (reference id) state) (run_of h (Err e) two)
+    Embeds dataset before after first last (reversed_in frame) (IsOfNode g id) (λ views. emit_accepted views (embed views room) g path frame (reference id) state) (run_of h (Err e) two)
 reference_over f h room g path frame id state one two taken e is tells gained =
-    stopped f h (λ views. embed views room g id frame false path state) (λ views. emitted views (embed views room) g path frame (reference id) state)
+    stopped f h (λ views. embed views room g id frame false path state) (λ views. emit_accepted views (embed views room) g path frame (reference id) state)
     e one two gained (λ question near. near)
     (λ views limit same.
     ap (λ r. then (then r (λ made later. gives (node_entry made) later)) (λ made later. gives (Some made) later)) same
@@ -432,9 +432,9 @@ pub reference_made :
     ((views : Views) (graph : GraphRef) (x : Term) → accepts views graph frame (reference x) ≡ taken_by taken (matches views graph frame x)) →
     entry ≡ Some (node_entry made) →
     Embeds dataset before after first last (reversed_in frame) (IsOfNode g id) (λ views. embed views room g id frame false path state) (Some (gives made final)) →
-    Embeds dataset before after first last (reversed_in frame) (IsOfNode g id) (λ views. emitted views (embed views room) g path frame (reference id) state) (Some (gives entry final))
+    Embeds dataset before after first last (reversed_in frame) (IsOfNode g id) (λ views. emit_accepted views (embed views room) g path frame (reference id) state) (Some (gives entry final))
 reference_made room g path frame id state final taken made entry is tells same gained =
-    taken_on (λ views. embed views room g id frame false path state) (λ views. emitted views (embed views room) g path frame (reference id) state)
+    taken_on (λ views. embed views room g id frame false path state) (λ views. emit_accepted views (embed views room) g path frame (reference id) state)
     (gives made final) (gives entry final) gained (λ question near. near)
     (λ views k.
     ap (λ m. gives m final) same
@@ -459,7 +459,7 @@ match_emitted :
     taken ≡ rule.Matching →
     ((one : Views) (graph : GraphRef) (x : Term) → accepts one graph frame (reference x) ≡ taken_by taken (matches one graph frame x)) →
     then (matched views (embed views room) g frame false path id state) (λ one after. gives (option_map node_entry one) after)
-    ≡ emitted views (embed views room) g path frame (reference id) state
+    ≡ emit_accepted views (embed views room) g path frame (reference id) state
 match_emitted views room g path frame id state taken is tells =
     perhaps_mapped node_entry (matches views g frame id) (embed views room g id frame false path) state
     ∙ reference_emitted views (embed views room) g path frame id state (matches views g frame id)
@@ -471,9 +471,9 @@ pub match_reference_over :
     taken ≡ rule.Matching →
     ((views : Views) (graph : GraphRef) (x : Term) → accepts views graph frame (reference x) ≡ taken_by taken (matches views graph frame x)) →
     Embeds dataset before after first last (reversed_in frame) (IsOfNode g id) (λ views. matched views (embed views room) g frame false path id state) (run_of f (Err e) one) →
-    Embeds dataset before after first last (reversed_in frame) (IsOfNode g id) (λ views. emitted views (embed views room) g path frame (reference id) state) (run_of h (Err e) two)
+    Embeds dataset before after first last (reversed_in frame) (IsOfNode g id) (λ views. emit_accepted views (embed views room) g path frame (reference id) state) (run_of h (Err e) two)
 match_reference_over f h room g path frame id state one two taken e is tells gained =
-    stopped f h (λ views. matched views (embed views room) g frame false path id state) (λ views. emitted views (embed views room) g path frame (reference id) state)
+    stopped f h (λ views. matched views (embed views room) g frame false path id state) (λ views. emit_accepted views (embed views room) g path frame (reference id) state)
     e one two gained (λ question near. near)
     (λ views limit same.
     ap (λ r. then r (λ made later. gives (option_map node_entry made) later)) same
@@ -485,9 +485,9 @@ pub match_reference_made :
     ((views : Views) (graph : GraphRef) (x : Term) → accepts views graph frame (reference x) ≡ taken_by taken (matches views graph frame x)) →
     entry ≡ option_map node_entry made →
     Embeds dataset before after first last (reversed_in frame) (IsOfNode g id) (λ views. matched views (embed views room) g frame false path id state) (Some (gives made final)) →
-    Embeds dataset before after first last (reversed_in frame) (IsOfNode g id) (λ views. emitted views (embed views room) g path frame (reference id) state) (Some (gives entry final))
+    Embeds dataset before after first last (reversed_in frame) (IsOfNode g id) (λ views. emit_accepted views (embed views room) g path frame (reference id) state) (Some (gives entry final))
 match_reference_made room g path frame id state final taken made entry is tells same gained =
-    taken_on (λ views. matched views (embed views room) g frame false path id state) (λ views. emitted views (embed views room) g path frame (reference id) state)
+    taken_on (λ views. matched views (embed views room) g frame false path id state) (λ views. emit_accepted views (embed views room) g path frame (reference id) state)
     (gives made final) (gives entry final) gained (λ question near. near)
     (λ views k.
     ap (λ m. gives m final) same

@@ -17,8 +17,8 @@ use Rattle.def_framing.specs.Parts.{Embedding, embed_all, embed_next, emit, emit
 use Rattle.def_framing.specs.Results.{State, Result, choose, entered, gives, item, over, then, through}
 use Rattle.def_framing.specs.Steps.{is_output, item_frame, seen, sub_for}
 use Rattle.def_framing.specs.Views.{Views, Place}
-use Rattle.lf_embed.specs.Cycle.{arriving_next, arriving_part, descend, embed_viewed, emitted, entry_next, key_next, keys_part, list_output, perhaps, property_next, reverses_part, view_property}
-use Rattle.lf_embed.specs.Made.{literal_output, with_made}
+use Rattle.lf_embed.specs.Cycle.{arriving_next, arriving_part, descend, embed_viewed, emit_accepted, emit_list, entry_next, key_next, keys_part, perhaps, property_next, reverses_part, view_property}
+use Rattle.lf_embed.specs.Made.{emit_literal, with_made}
 
 -- a node is embedded by its own view
 pub embed_is_viewed :
@@ -198,7 +198,7 @@ pub reference_emitted :
     (views : Views) (self : Embedding) (graph : GraphRef) (path : List Place) (frame : Nested) (id : Term) (state : State) (test : Bool) →
     accepts views graph frame (reference id) ≡ test →
     perhaps test (λ before. then (self graph id frame false path before) (λ made after. gives (node_entry made) after)) state
-    ≡ emitted views self graph path frame (reference id) state
+    ≡ emit_accepted views self graph path frame (reference id) state
 unfolding emit emit_all
 reference_emitted views self graph path frame id state test e =
     ap (λ b. perhaps b (λ before. then (self graph id frame false path before) (λ made after. gives (node_entry made) after)) state) (sym e)
@@ -206,7 +206,7 @@ reference_emitted views self graph path frame id state test e =
 pub literal_emitted :
     (views : Views) (self : Embedding) (graph : GraphRef) (path : List Place) (frame : Nested) (term : Term) (state : State) (test : Bool) →
     accepts views graph frame (literal term) ≡ test →
-    choose test (literal_output term) (gives None) state ≡ emitted views self graph path frame (literal term) state
+    choose test (emit_literal term) (gives None) state ≡ emit_accepted views self graph path frame (literal term) state
 unfolding emit emit_all
 literal_emitted views self graph path frame term state test e =
     pick test ∙ ap (λ b. perhaps b (emit views self graph path frame (literal term)) state) (sym e)
@@ -217,14 +217,14 @@ literal_emitted views self graph path frame term state test e =
     counted (gives c after) = refl
     counted (over limit) = refl
 
-    pick : (b : Bool) → choose b (literal_output term) (gives None) state ≡ perhaps b (emit views self graph path frame (literal term)) state
+    pick : (b : Bool) → choose b (emit_literal term) (gives None) state ≡ perhaps b (emit views self graph path frame (literal term)) state
     pick true = counted (item state)
     pick false = refl
 
 pub list_emitted :
     (views : Views) (self : Embedding) (graph : GraphRef) (path : List Place) (frame : Nested) (items : List ListValue) (state : State) →
     accepts views graph frame (list (values_of items)) ≡ true →
-    list_output views self graph path frame items state ≡ emitted views self graph path frame (list (values_of items)) state
+    emit_list views self graph path frame items state ≡ emit_accepted views self graph path frame (list (values_of items)) state
 unfolding emit emit_all
 list_emitted views self graph path frame items state e =
     counted (item state) ∙ ap (λ b. perhaps b (emit views self graph path frame (list (values_of items))) state) (sym e)

@@ -80,10 +80,10 @@ named_part views self name frame path state =
     keys_part views self (Named name) frame true path (views.keys (Named name)) state
 
 -- a value that a frame accepts is output
-abbrev pub emitted :
+abbrev pub emit_accepted :
     Views → Embedding → GraphRef → List Place → Nested → ListValue → State →
     Result (Option TreeEntry)
-emitted views self graph path frame held state =
+emit_accepted views self graph path frame held state =
     perhaps (accepts views graph frame held) (emit views self graph path frame held) state
 
 -- one more value joins the outputs before it, where the frame accepts it
@@ -91,14 +91,14 @@ abbrev pub entry_next :
     Views → Embedding → GraphRef → List Place → Nested → List TreeEntry → Value → State →
     Result (List TreeEntry)
 entry_next views self graph path frame done held state =
-    then (emitted views self graph path frame (value_data held) state)
+    then (emit_accepted views self graph path frame (value_data held) state)
     (λ made after. gives (with_made made done) after)
 
 -- a list is counted, and its accepted items are output
-abbrev pub list_output :
+abbrev pub emit_list :
     Views → Embedding → GraphRef → List Place → Nested → List ListValue → State →
     Result (Option TreeEntry)
-list_output views self graph path frame items state =
+emit_list views self graph path frame items state =
     then (item state)
     (λ counted before.
     then (emit_all views self graph path (item_frame frame) [] (values_of items) before)

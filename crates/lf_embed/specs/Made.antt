@@ -10,6 +10,6 @@ with_made None done = done
 with_made (Some made) done = done ++ made ∷ []
 
 -- a literal is counted and output as it is
-abbrev pub literal_output : Term → State → Result (Option TreeEntry)
-literal_output term state =
+abbrev pub emit_literal : Term → State → Result (Option TreeEntry)
+emit_literal term state =
     then (item state) (λ counted after. gives (Some (literal_entry term)) after)

@@ -13,7 +13,7 @@ ghost use Rattle.def_nested.specs.Unfolding.{above, build_reverses, nested};
 ghost use Rattle.def_framing.specs.Embedding.{contents, embed};
 ghost use Rattle.def_framing.specs.Nearness.{in_reverses, reversed_in};
 ghost use Rattle.def_framing.specs.Parts.{emit_all, graph_part, reverse_part, value_part};
-ghost use Rattle.lf_embed.specs.Cycle.{arriving_part, descend, embed_viewed, emitted, keys_part, list_output, matched, named_part, property_values, reverses_part, view_property};
+ghost use Rattle.lf_embed.specs.Cycle.{arriving_part, descend, embed_viewed, emit_accepted, emit_list, keys_part, matched, named_part, property_values, reverses_part, view_property};
 ghost use Rattle.lf_embed.specs.Embeds.{Embeds, IsOfKeys, IsOfNodeOrView, IsOfProps};
 ghost use Rattle.lf_embed.specs.Forms.{form_of};
 ghost use Rattle.lf_embed.specs.Runs.{run_of};
@@ -452,7 +452,7 @@ fn emit_all<N: Nodes, L: Ledger>(
 {
     let mut entries = TreeValueList::new(alloc);
     for value in values {
-        match emit(alloc, nodes, graph, value, frame, form, room, walk, steps) {
+        match emit_accepted(alloc, nodes, graph, value, frame, form, room, walk, steps) {
             Err(stop) => return Err(stop),
             Ok(made) => push_entry(made, &mut entries)?,
         }
@@ -462,7 +462,7 @@ fn emit_all<N: Nodes, L: Ledger>(
 
 // A value that a sub-frame accepts.
 #[cycle(embedding)]
-fn emit<N: Nodes, L: Ledger>(
+fn emit_accepted<N: Nodes, L: Ledger>(
     alloc: Global,
     nodes: &mut N,
     graph: &GraphRef,
@@ -476,7 +476,7 @@ fn emit<N: Nodes, L: Ledger>(
     ensures run { Embeds (N.quads nodes.old) (N.told nodes.old) (N.told nodes.new) steps.old steps.new
         (reversed_in (form_of frame.now.nodes form))
         (IsOfValue graph.now (value_data value.now)) (λ views.
-        emitted views (embed views room) graph.now (path_of walk.old)
+        emit_accepted views (embed views room) graph.now (path_of walk.old)
         (form_of frame.now.nodes form) (value_data value.now) (state_of walk.old))
         (run_of (option_map entry_data) result (state_of walk.new)) }
     ensures quads_stay { N.quads nodes.new ≡ N.quads nodes.old }
@@ -518,7 +518,7 @@ fn emit_list<N: Nodes, L: Ledger>(
     ensures run { Embeds (N.quads nodes.old) (N.told nodes.old) (N.told nodes.new) steps.old steps.new
         (reversed_in (form_of frame.now.nodes form))
         (IsOfValues graph.now (map value_data items.now)) (λ views.
-        list_output views (embed views room) graph.now (path_of walk.old)
+        emit_list views (embed views room) graph.now (path_of walk.old)
         (form_of frame.now.nodes form) (map value_data items.now) (state_of walk.old))
         (run_of (option_map entry_data) result (state_of walk.new)) }
     ensures quads_stay { N.quads nodes.new ≡ N.quads nodes.old }
@@ -563,7 +563,7 @@ fn emit_reference<N: Nodes, L: Ledger>(
     ensures run { Embeds (N.quads nodes.old) (N.told nodes.old) (N.told nodes.new) steps.old steps.new
         (reversed_in (form_of frame.now.nodes form)) (IsOfNode graph.now id.now)
         (λ views.
-        emitted views (embed views room) graph.now (path_of walk.old)
+        emit_accepted views (embed views room) graph.now (path_of walk.old)
         (form_of frame.now.nodes form) (reference id.now) (state_of walk.old))
         (run_of (option_map entry_data) result (state_of walk.new)) }
     ensures quads_stay { N.quads nodes.new ≡ N.quads nodes.old }
@@ -617,7 +617,7 @@ fn reverse_part<N: Nodes, L: Ledger>(
         Form::Wild(_) => Ok(TreeReverseList::new(alloc)),
         Form::Row(at) => match frame.nodes.at(at as u64) {
             None => Ok(TreeReverseList::new(alloc)),
-            Some(row) => reverse_props(
+            Some(row) => reverses_part(
                 alloc,
                 nodes,
                 graph,
@@ -635,7 +635,7 @@ fn reverse_part<N: Nodes, L: Ledger>(
 
 // One reverse property after another.
 #[cycle(embedding)]
-fn reverse_props<N: Nodes, L: Ledger>(
+fn reverses_part<N: Nodes, L: Ledger>(
     alloc: Global,
     nodes: &mut N,
     graph: &GraphRef,
@@ -659,7 +659,7 @@ fn reverse_props<N: Nodes, L: Ledger>(
 {
     let mut made = TreeReverseList::new(alloc);
     for held in props.as_slice() {
-        match arriving(alloc, nodes, graph, id, held, frame, at, room, walk, steps) {
+        match arriving_part(alloc, nodes, graph, id, held, frame, at, room, walk, steps) {
             Err(stop) => return Err(stop),
             Ok(trees) => add_reverse(alloc, &held.property, trees, &mut made)?,
         }
@@ -669,7 +669,7 @@ fn reverse_props<N: Nodes, L: Ledger>(
 
 // The keys that point here by a reverse property and match its sub-frame are embedded by it.
 #[cycle(embedding)]
-fn arriving<N: Nodes, L: Ledger>(
+fn arriving_part<N: Nodes, L: Ledger>(
     alloc: Global,
     nodes: &mut N,
     graph: &GraphRef,

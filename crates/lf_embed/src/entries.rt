@@ -7,7 +7,7 @@ ghost use Rattle.def_framing.specs.Embedding.{refer};
 ghost use Rattle.def_framing.specs.Parts.{default_entries, fallback_next};
 ghost use Rattle.def_framing.specs.Results.{through};
 ghost use Rattle.lf_model.specs.declared.frame.DefaultValue.TheVariants.{Null};
-ghost use Rattle.lf_embed.specs.Made.{literal_output};
+ghost use Rattle.lf_embed.specs.Made.{emit_literal};
 ghost use Rattle.lf_embed.specs.Runs.{run_of};
 ghost use Rattle.lf_embed.specs.Walks.{path_of, state_of};
 
@@ -43,7 +43,7 @@ pub fn emit_literal(
     walk: &mut Walk,
 ) -> Result<Option<TreeValue>, Stop>
     ensures run { IfSome (run_of (option_map entry_data) result (state_of walk.new))
-        (λ r. r ≡ literal_output literal.now (state_of walk.old)) }
+        (λ r. r ≡ emit_literal literal.now (state_of walk.old)) }
     ensures path { path_of walk.new ≡ path_of walk.old }
     ensures grows { OnOk result ((state_of walk.old).count ≤ (state_of walk.new).count) }
 {

@@ -13,7 +13,7 @@ use Rattle.def_framing.specs.Embedding.{embed}
 use Rattle.def_framing.specs.Nearness.{in_reverses, reversed_in}
 use Rattle.def_framing.specs.Parts.{emit_all, value_part, with_property, with_reverse}
 use Rattle.def_framing.specs.Results.{gives, then, through}
-use Rattle.lf_embed.specs.Cycle.{arriving_next, arriving_part, emitted, entry_next, key_next, keys_part, matched, property_next, property_values, reverses_part, view_property}
+use Rattle.lf_embed.specs.Cycle.{arriving_next, arriving_part, emit_accepted, entry_next, key_next, keys_part, matched, property_next, property_values, reverses_part, view_property}
 use Rattle.lf_embed.specs.Embeds.{IsOfKeys, IsOfProps}
 use Rattle.lf_embed.specs.Forms.{form_of}
 use Rattle.lf_embed.specs.Made.{with_made}
@@ -96,20 +96,20 @@ property_values-returns-then-outputs-clause-run g t c = values_output c.args.roo
 pub property_values-returns-else-outputs-clause-run : goal.property_values-returns-else-outputs-clause-run
 property_values-returns-else-outputs-clause-run g t c = as_made (map entry_data c.new.result) [] (state_of c.args.walk.now) (ap (map entry_data) c.new.ensures) (values_skipped c.args.room c.args.graph.now (form_of c.args.frame.now.nodes c.args.form) (path_of c.args.walk.now) c.args.held.now (state_of c.args.walk.now) _ c.outputs.ensures c.if-outputs.false)
 
-pub emit-returns-in-Ref-clause-run : goal.emit-returns-in-Ref-clause-run
-emit-returns-in-Ref-clause-run g t c = reference_value c.args.room c.args.graph.now (path_of c.args.walk.now) (form_of c.args.frame.now.nodes c.args.form) c.args.value.now _ (state_of c.args.walk.now) (run_of (option_map entry_data) c.emit_reference.result (state_of c.emit_reference.new.walk)) c.in-Ref.is c.emit_reference.ensures.run
+pub emit_accepted-returns-in-Ref-clause-run : goal.emit_accepted-returns-in-Ref-clause-run
+emit_accepted-returns-in-Ref-clause-run g t c = reference_value c.args.room c.args.graph.now (path_of c.args.walk.now) (form_of c.args.frame.now.nodes c.args.form) c.args.value.now _ (state_of c.args.walk.now) (run_of (option_map entry_data) c.emit_reference.result (state_of c.emit_reference.new.walk)) c.in-Ref.is c.emit_reference.ensures.run
 
-pub emit-returns-then-branch-clause-run : goal.emit-returns-then-branch-clause-run
-emit-returns-then-branch-clause-run g t c = literal_value c.args.room c.args.graph.now (path_of c.args.walk.now) (form_of c.args.frame.now.nodes c.args.form) c.args.value.now _ (state_of c.args.walk.now) (run_of (option_map entry_data) c.emit_literal.result (state_of c.emit_literal.new.walk)) _ c.in-Literal.is c.if-branch.true c.in_ok-form_accepts-in-Literal.ensures.accepted c.emit_literal.ensures.run
+pub emit_accepted-returns-then-branch-clause-run : goal.emit_accepted-returns-then-branch-clause-run
+emit_accepted-returns-then-branch-clause-run g t c = literal_value c.args.room c.args.graph.now (path_of c.args.walk.now) (form_of c.args.frame.now.nodes c.args.form) c.args.value.now _ (state_of c.args.walk.now) (run_of (option_map entry_data) c.emit_literal.result (state_of c.emit_literal.new.walk)) _ c.in-Literal.is c.if-branch.true c.in_ok-form_accepts-in-Literal.ensures.accepted c.emit_literal.ensures.run
 
-pub emit-returns-else-branch-clause-run : goal.emit-returns-else-branch-clause-run
-emit-returns-else-branch-clause-run g t c = value_refused c.args.room c.args.graph.now (path_of c.args.walk.now) (form_of c.args.frame.now.nodes c.args.form) (value_data c.args.value.now) (state_of c.args.walk.now) _ c.if-branch.false c.in_ok-form_accepts-in-Literal.ensures.accepted
+pub emit_accepted-returns-else-branch-clause-run : goal.emit_accepted-returns-else-branch-clause-run
+emit_accepted-returns-else-branch-clause-run g t c = value_refused c.args.room c.args.graph.now (path_of c.args.walk.now) (form_of c.args.frame.now.nodes c.args.form) (value_data c.args.value.now) (state_of c.args.walk.now) _ c.if-branch.false c.in_ok-form_accepts-in-Literal.ensures.accepted
 
-pub emit-returns-then-branch-2-clause-run : goal.emit-returns-then-branch-2-clause-run
-emit-returns-then-branch-2-clause-run g t c = list_value c.args.room c.args.graph.now (path_of c.args.walk.now) (form_of c.args.frame.now.nodes c.args.form) c.args.value.now c.in-List.items (state_of c.args.walk.now) (run_of (option_map entry_data) c.emit_list.result (state_of c.emit_list.new.walk)) _ c.in-List.is c.if-branch-2.true c.in_ok-form_accepts-in-List.ensures.accepted c.form_accepts-in-List.ensures.quads_stay c.emit_list.ensures.run
+pub emit_accepted-returns-then-branch-2-clause-run : goal.emit_accepted-returns-then-branch-2-clause-run
+emit_accepted-returns-then-branch-2-clause-run g t c = list_value c.args.room c.args.graph.now (path_of c.args.walk.now) (form_of c.args.frame.now.nodes c.args.form) c.args.value.now c.in-List.items (state_of c.args.walk.now) (run_of (option_map entry_data) c.emit_list.result (state_of c.emit_list.new.walk)) _ c.in-List.is c.if-branch-2.true c.in_ok-form_accepts-in-List.ensures.accepted c.form_accepts-in-List.ensures.quads_stay c.emit_list.ensures.run
 
-pub emit-returns-else-branch-2-clause-run : goal.emit-returns-else-branch-2-clause-run
-emit-returns-else-branch-2-clause-run g t c = value_refused c.args.room c.args.graph.now (path_of c.args.walk.now) (form_of c.args.frame.now.nodes c.args.form) (value_data c.args.value.now) (state_of c.args.walk.now) _ c.if-branch-2.false c.in_ok-form_accepts-in-List.ensures.accepted
+pub emit_accepted-returns-else-branch-2-clause-run : goal.emit_accepted-returns-else-branch-2-clause-run
+emit_accepted-returns-else-branch-2-clause-run g t c = value_refused c.args.room c.args.graph.now (path_of c.args.walk.now) (form_of c.args.frame.now.nodes c.args.form) (value_data c.args.value.now) (state_of c.args.walk.now) _ c.if-branch-2.false c.in_ok-form_accepts-in-List.ensures.accepted
 
 pub emit_list-returns-in-Err-clause-run : goal.emit_list-returns-in-Err-clause-run
 emit_list-returns-in-Err-clause-run g t c = no_list_left (option_map entry_data) c.args.room c.args.graph.now (path_of c.args.walk.now) (form_of c.args.frame.now.nodes c.args.form) (map value_data c.args.items.now) (state_of c.args.walk.now) (state_of c.count_item.new.self) c.in-Err.stop c.in-Err.ensures.full
@@ -145,10 +145,10 @@ pub reverse_part-returns-in-None-clause-run : goal.reverse_part-returns-in-None-
 reverse_part-returns-in-None-clause-run g t c = as_made (map reverse_data c.new-in-None.result) [] (state_of c.args.walk.now) (ap (map reverse_data) c.new-in-None.ensures) (no_reverse c.args.room c.args.graph.now c.args.id.now (form_of c.args.frame.now.nodes c.args.form) (path_of c.args.walk.now) (state_of c.args.walk.now) (ap reverse_props_of (form_no_row _ _ _ c.in-Row.is c.in-None.ensures.item)))
 
 pub reverse_part-returns-in-Some-clause-run : goal.reverse_part-returns-in-Some-clause-run
-reverse_part-returns-in-Some-clause-run g t c = row_reverses c.args.room c.args.graph.now c.args.id.now c.args.frame.now.nodes c.args.form _ c.in-Some.row.now (path_of c.args.walk.now) (state_of c.args.walk.now) (run_of (map reverse_data) c.reverse_props.result (state_of c.reverse_props.new.walk)) c.in-Row.is c.in-Some.ensures.item c.reverse_props.ensures.run
+reverse_part-returns-in-Some-clause-run g t c = row_reverses c.args.room c.args.graph.now c.args.id.now c.args.frame.now.nodes c.args.form _ c.in-Some.row.now (path_of c.args.walk.now) (state_of c.args.walk.now) (run_of (map reverse_data) c.reverses_part.result (state_of c.reverses_part.new.walk)) c.in-Row.is c.in-Some.ensures.item c.reverses_part.ensures.run
 
-pub arriving-returns-clause-run : goal.arriving-returns-clause-run
-arriving-returns-clause-run g t c = arrivals c.args.room c.args.graph.now c.args.id.now c.args.held.now.property _ (above c.args.at (nested c.args.frame.now.nodes) c.args.held.now.frame) _ (path_of c.args.walk.now) (state_of c.args.walk.now) _ (run_of (map tree_data) c.keys_part.result (state_of c.keys_part.new.walk)) c.in_ok-copy.ensures c.numbered-sub.ensures c.in_ok-keys.ensures.keys c.pointing.ensures.quads_stay c.keys_part.ensures.run
+pub arriving_part-returns-clause-run : goal.arriving_part-returns-clause-run
+arriving_part-returns-clause-run g t c = arrivals c.args.room c.args.graph.now c.args.id.now c.args.held.now.property _ (above c.args.at (nested c.args.frame.now.nodes) c.args.held.now.frame) _ (path_of c.args.walk.now) (state_of c.args.walk.now) _ (run_of (map tree_data) c.keys_part.result (state_of c.keys_part.new.walk)) c.in_ok-copy.ensures c.numbered-sub.ensures c.in_ok-keys.ensures.keys c.pointing.ensures.quads_stay c.keys_part.ensures.run
 
 pub keys_part-loop-id-init : goal.keys_part-loop-id-init
 keys_part-loop-id-init g t c = record { stays = refl; path = refl; grows = omega arith; gained = silent (λ views. through (key_next views (embed views c.args.room) c.args.graph.now (form_of c.args.frame.now.nodes c.args.form) c.args.free (path_of c.args.walk.now)) [] [] (state_of c.args.walk.now)) _ (λ views. ap (λ made. gives (map tree_data made) (state_of c.args.walk.now)) c.new-trees.ensures) }
@@ -207,49 +207,49 @@ emit_all-loop-value-init g t c = record { stays = refl; path = refl; grows = ome
 
 pub emit_all-loop-value-preserved : goal.emit_all-loop-value-preserved
 emit_all-loop-value-preserved g t c = record {
-  stays = c.emit.ensures.quads_stay ∙ c.loop-value.invariant.stays;
+  stays = c.emit_accepted.ensures.quads_stay ∙ c.loop-value.invariant.stays;
   path = c.in-Ok.ensures.path_stays ∙ c.loop-value.invariant.path;
   grows = omega (arith, c.in-Ok.ensures.grows, c.loop-value.invariant.grows);
   gained =
-      goes_on (λ views. entry_next views (embed views c.args.room) c.args.graph.now (path_of c.args.walk.now) (form_of c.args.frame.now.nodes c.args.form)) (λ views. emitted views (embed views c.args.room) c.args.graph.now (path_of c.loop-value.walk) (form_of c.args.frame.now.nodes c.args.form) (value_data c.value-item.result) (state_of c.loop-value.walk)) (with_made) [] (map entry_data c.loop-value.entries) (map entry_data c.push_entry.new.entries) c.args.values.now c.loop-value.value-index c.value-item.result (state_of c.args.walk.now) (state_of c.loop-value.walk) (state_of c.emit.new.walk) (option_map entry_data c.in-Ok.made) c.loop-value-test.true
+      goes_on (λ views. entry_next views (embed views c.args.room) c.args.graph.now (path_of c.args.walk.now) (form_of c.args.frame.now.nodes c.args.form)) (λ views. emit_accepted views (embed views c.args.room) c.args.graph.now (path_of c.loop-value.walk) (form_of c.args.frame.now.nodes c.args.form) (value_data c.value-item.result) (state_of c.loop-value.walk)) (with_made) [] (map entry_data c.loop-value.entries) (map entry_data c.push_entry.new.entries) c.args.values.now c.loop-value.value-index c.value-item.result (state_of c.args.walk.now) (state_of c.loop-value.walk) (state_of c.emit_accepted.new.walk) (option_map entry_data c.in-Ok.made) c.loop-value-test.true
       c.value-item.is c.loop-value.invariant.gained c.loop-value.invariant.stays c.in-Ok.ensures.run
       (same_by (g.N.Nodes.quads c.args.nodes.now) (reversed_in (form_of c.args.frame.now.nodes c.args.form)) (reversed_in (form_of c.args.frame.now.nodes c.args.form)) (IsOfValue c.args.graph.now (value_data c.value-item.result)) (IsOfValues c.args.graph.now (map value_data c.args.values.now)) (themselves (reversed_in (form_of c.args.frame.now.nodes c.args.form))) (λ x here. this_value_refers c.args.values.now c.loop-value.value-index c.value-item.result c.args.graph.now x c.loop-value-test.true c.value-item.is here))
-      (λ views. ap (λ p. then (emitted views (embed views c.args.room) c.args.graph.now p (form_of c.args.frame.now.nodes c.args.form) (value_data c.value-item.result) (state_of c.loop-value.walk)) (λ made then_state. gives (with_made made (map entry_data c.loop-value.entries)) then_state)) c.loop-value.invariant.path)
+      (λ views. ap (λ p. then (emit_accepted views (embed views c.args.room) c.args.graph.now p (form_of c.args.frame.now.nodes c.args.form) (value_data c.value-item.result) (state_of c.loop-value.walk)) (λ made then_state. gives (with_made made (map entry_data c.loop-value.entries)) then_state)) c.loop-value.invariant.path)
       c.in_ok-push_entry-in-Ok.ensures;
 }
 
 pub emit_all-returns-in-Err-clause-run : goal.emit_all-returns-in-Err-clause-run
-emit_all-returns-in-Err-clause-run g t c = goes_wrong (option_map entry_data) (map entry_data) (λ views. entry_next views (embed views c.args.room) c.args.graph.now (path_of c.args.walk.now) (form_of c.args.frame.now.nodes c.args.form)) (λ views. emitted views (embed views c.args.room) c.args.graph.now (path_of c.loop-value.walk) (form_of c.args.frame.now.nodes c.args.form) (value_data c.value-item.result) (state_of c.loop-value.walk)) (λ views. emit_all views (embed views c.args.room) c.args.graph.now (path_of c.args.walk.now) (form_of c.args.frame.now.nodes c.args.form) [] (values_of (map value_data c.args.values.now)) (state_of c.args.walk.now)) (with_made) [] (map entry_data c.loop-value.entries) c.args.values.now c.loop-value.value-index c.value-item.result (state_of c.args.walk.now) (state_of c.loop-value.walk) (state_of c.emit.new.walk) (state_of c.emit.new.walk) c.in-Err.stop
+emit_all-returns-in-Err-clause-run g t c = goes_wrong (option_map entry_data) (map entry_data) (λ views. entry_next views (embed views c.args.room) c.args.graph.now (path_of c.args.walk.now) (form_of c.args.frame.now.nodes c.args.form)) (λ views. emit_accepted views (embed views c.args.room) c.args.graph.now (path_of c.loop-value.walk) (form_of c.args.frame.now.nodes c.args.form) (value_data c.value-item.result) (state_of c.loop-value.walk)) (λ views. emit_all views (embed views c.args.room) c.args.graph.now (path_of c.args.walk.now) (form_of c.args.frame.now.nodes c.args.form) [] (values_of (map value_data c.args.values.now)) (state_of c.args.walk.now)) (with_made) [] (map entry_data c.loop-value.entries) c.args.values.now c.loop-value.value-index c.value-item.result (state_of c.args.walk.now) (state_of c.loop-value.walk) (state_of c.emit_accepted.new.walk) (state_of c.emit_accepted.new.walk) c.in-Err.stop
     c.loop-value-test.true c.value-item.is c.loop-value.invariant.gained c.loop-value.invariant.stays c.in-Err.ensures.run
     (same_by (g.N.Nodes.quads c.args.nodes.now) (reversed_in (form_of c.args.frame.now.nodes c.args.form)) (reversed_in (form_of c.args.frame.now.nodes c.args.form)) (IsOfValue c.args.graph.now (value_data c.value-item.result)) (IsOfValues c.args.graph.now (map value_data c.args.values.now)) (themselves (reversed_in (form_of c.args.frame.now.nodes c.args.form))) (λ x here. this_value_refers c.args.values.now c.loop-value.value-index c.value-item.result c.args.graph.now x c.loop-value-test.true c.value-item.is here))
-    (λ views. ap (λ p. then (emitted views (embed views c.args.room) c.args.graph.now p (form_of c.args.frame.now.nodes c.args.form) (value_data c.value-item.result) (state_of c.loop-value.walk)) (λ made then_state. gives (with_made made (map entry_data c.loop-value.entries)) then_state)) c.loop-value.invariant.path)
+    (λ views. ap (λ p. then (emit_accepted views (embed views c.args.room) c.args.graph.now p (form_of c.args.frame.now.nodes c.args.form) (value_data c.value-item.result) (state_of c.loop-value.walk)) (λ made then_state. gives (with_made made (map entry_data c.loop-value.entries)) then_state)) c.loop-value.invariant.path)
     (λ views. entries_emitted views (embed views c.args.room) c.args.graph.now (path_of c.args.walk.now) (form_of c.args.frame.now.nodes c.args.form) c.args.values.now (state_of c.args.walk.now))
 
 pub emit_all-returns-clause-run : goal.emit_all-returns-clause-run
 emit_all-returns-clause-run g t c = comes_to_an_end (λ views. entry_next views (embed views c.args.room) c.args.graph.now (path_of c.args.walk.now) (form_of c.args.frame.now.nodes c.args.form)) (λ views. emit_all views (embed views c.args.room) c.args.graph.now (path_of c.args.walk.now) (form_of c.args.frame.now.nodes c.args.form) [] (values_of (map value_data c.args.values.now)) (state_of c.args.walk.now)) [] (map entry_data c.loop-value.entries) c.args.values.now c.loop-value.value-index (state_of c.args.walk.now) (state_of c.loop-value.walk) (omega arith) c.loop-value.invariant.gained (λ views. entries_emitted views (embed views c.args.room) c.args.graph.now (path_of c.args.walk.now) (form_of c.args.frame.now.nodes c.args.form) c.args.values.now (state_of c.args.walk.now))
 
-pub reverse_props-loop-held-init : goal.reverse_props-loop-held-init
-reverse_props-loop-held-init g t c = record { stays = refl; path = refl; grows = omega arith; gained = silent (λ views. through (arriving_next views (embed views c.args.room) c.args.graph.now c.args.id.now (path_of c.args.walk.now) (above c.args.at (nested c.args.frame.now.nodes))) [] [] (state_of c.args.walk.now)) _ (λ views. ap (λ made. gives (map reverse_data made) (state_of c.args.walk.now)) c.new-made.ensures) }
+pub reverses_part-loop-held-init : goal.reverses_part-loop-held-init
+reverses_part-loop-held-init g t c = record { stays = refl; path = refl; grows = omega arith; gained = silent (λ views. through (arriving_next views (embed views c.args.room) c.args.graph.now c.args.id.now (path_of c.args.walk.now) (above c.args.at (nested c.args.frame.now.nodes))) [] [] (state_of c.args.walk.now)) _ (λ views. ap (λ made. gives (map reverse_data made) (state_of c.args.walk.now)) c.new-made.ensures) }
 
-pub reverse_props-loop-held-preserved : goal.reverse_props-loop-held-preserved
-reverse_props-loop-held-preserved g t c = record {
-  stays = c.arriving.ensures.quads_stay ∙ c.loop-held.invariant.stays;
+pub reverses_part-loop-held-preserved : goal.reverses_part-loop-held-preserved
+reverses_part-loop-held-preserved g t c = record {
+  stays = c.arriving_part.ensures.quads_stay ∙ c.loop-held.invariant.stays;
   path = c.in-Ok.ensures.path_stays ∙ c.loop-held.invariant.path;
   grows = omega (arith, c.in-Ok.ensures.grows, c.loop-held.invariant.grows);
   gained =
-      goes_on (λ views. arriving_next views (embed views c.args.room) c.args.graph.now c.args.id.now (path_of c.args.walk.now) (above c.args.at (nested c.args.frame.now.nodes))) (λ views. arriving_part views (embed views c.args.room) c.args.graph.now c.args.id.now (path_of c.loop-held.walk) (c.held-item.result.property, (above c.args.at (nested c.args.frame.now.nodes)) c.held-item.result.frame) (state_of c.loop-held.walk)) (with_reverse c.held-item.result.property) [] (map reverse_data c.loop-held.made) (map reverse_data c.add_reverse.new.made) c.args.props.now c.loop-held.held-index c.held-item.result (state_of c.args.walk.now) (state_of c.loop-held.walk) (state_of c.arriving.new.walk) (map tree_data c.in-Ok.trees) (subst (λ xs. c.loop-held.held-index < length xs) c.as_slice-held-items.ensures c.loop-held-test.true)
+      goes_on (λ views. arriving_next views (embed views c.args.room) c.args.graph.now c.args.id.now (path_of c.args.walk.now) (above c.args.at (nested c.args.frame.now.nodes))) (λ views. arriving_part views (embed views c.args.room) c.args.graph.now c.args.id.now (path_of c.loop-held.walk) (c.held-item.result.property, (above c.args.at (nested c.args.frame.now.nodes)) c.held-item.result.frame) (state_of c.loop-held.walk)) (with_reverse c.held-item.result.property) [] (map reverse_data c.loop-held.made) (map reverse_data c.add_reverse.new.made) c.args.props.now c.loop-held.held-index c.held-item.result (state_of c.args.walk.now) (state_of c.loop-held.walk) (state_of c.arriving_part.new.walk) (map tree_data c.in-Ok.trees) (subst (λ xs. c.loop-held.held-index < length xs) c.as_slice-held-items.ensures c.loop-held-test.true)
       (subst (λ xs. c.held-item.result ≡ get_or xs c.loop-held.held-index c.held-item.result) c.as_slice-held-items.ensures c.held-item.is) c.loop-held.invariant.gained c.loop-held.invariant.stays c.in-Ok.ensures.run
       (same_by (g.N.Nodes.quads c.args.nodes.now) (c.held-item.result.property ∷ reversed_in ((above c.args.at (nested c.args.frame.now.nodes)) c.held-item.result.frame)) (in_reverses (build_reverses (above c.args.at (nested c.args.frame.now.nodes)) c.args.props.now)) (IsOfNode c.args.graph.now c.args.id.now) (IsOfNode c.args.graph.now c.args.id.now) (this_reverse_among (above c.args.at (nested c.args.frame.now.nodes)) c.args.props.now c.loop-held.held-index c.held-item.result (subst (λ xs. c.loop-held.held-index < length xs) c.as_slice-held-items.ensures c.loop-held-test.true) (subst (λ xs. c.held-item.result ≡ get_or xs c.loop-held.held-index c.held-item.result) c.as_slice-held-items.ensures c.held-item.is)) (λ x here. here))
       (λ views. ap (λ p. then (arriving_part views (embed views c.args.room) c.args.graph.now c.args.id.now p (c.held-item.result.property, (above c.args.at (nested c.args.frame.now.nodes)) c.held-item.result.frame) (state_of c.loop-held.walk)) (λ made then_state. gives (with_reverse c.held-item.result.property made (map reverse_data c.loop-held.made)) then_state)) c.loop-held.invariant.path ∙ arrives views (embed views c.args.room) c.args.graph.now c.args.id.now (path_of c.args.walk.now) (above c.args.at (nested c.args.frame.now.nodes)) (map reverse_data c.loop-held.made) c.held-item.result (state_of c.loop-held.walk))
       c.in_ok-add_reverse-in-Ok.ensures;
 }
 
-pub reverse_props-returns-in-Err-clause-run : goal.reverse_props-returns-in-Err-clause-run
-reverse_props-returns-in-Err-clause-run g t c = goes_wrong (map tree_data) (map reverse_data) (λ views. arriving_next views (embed views c.args.room) c.args.graph.now c.args.id.now (path_of c.args.walk.now) (above c.args.at (nested c.args.frame.now.nodes))) (λ views. arriving_part views (embed views c.args.room) c.args.graph.now c.args.id.now (path_of c.loop-held.walk) (c.held-item.result.property, (above c.args.at (nested c.args.frame.now.nodes)) c.held-item.result.frame) (state_of c.loop-held.walk)) (λ views. reverses_part views (embed views c.args.room) c.args.graph.now c.args.id.now (path_of c.args.walk.now) (above c.args.at (nested c.args.frame.now.nodes)) c.args.props.now (state_of c.args.walk.now)) (with_reverse c.held-item.result.property) [] (map reverse_data c.loop-held.made) c.args.props.now c.loop-held.held-index c.held-item.result (state_of c.args.walk.now) (state_of c.loop-held.walk) (state_of c.arriving.new.walk) (state_of c.arriving.new.walk) c.in-Err.stop
+pub reverses_part-returns-in-Err-clause-run : goal.reverses_part-returns-in-Err-clause-run
+reverses_part-returns-in-Err-clause-run g t c = goes_wrong (map tree_data) (map reverse_data) (λ views. arriving_next views (embed views c.args.room) c.args.graph.now c.args.id.now (path_of c.args.walk.now) (above c.args.at (nested c.args.frame.now.nodes))) (λ views. arriving_part views (embed views c.args.room) c.args.graph.now c.args.id.now (path_of c.loop-held.walk) (c.held-item.result.property, (above c.args.at (nested c.args.frame.now.nodes)) c.held-item.result.frame) (state_of c.loop-held.walk)) (λ views. reverses_part views (embed views c.args.room) c.args.graph.now c.args.id.now (path_of c.args.walk.now) (above c.args.at (nested c.args.frame.now.nodes)) c.args.props.now (state_of c.args.walk.now)) (with_reverse c.held-item.result.property) [] (map reverse_data c.loop-held.made) c.args.props.now c.loop-held.held-index c.held-item.result (state_of c.args.walk.now) (state_of c.loop-held.walk) (state_of c.arriving_part.new.walk) (state_of c.arriving_part.new.walk) c.in-Err.stop
     (subst (λ xs. c.loop-held.held-index < length xs) c.as_slice-held-items.ensures c.loop-held-test.true) (subst (λ xs. c.held-item.result ≡ get_or xs c.loop-held.held-index c.held-item.result) c.as_slice-held-items.ensures c.held-item.is) c.loop-held.invariant.gained c.loop-held.invariant.stays c.in-Err.ensures.run
     (same_by (g.N.Nodes.quads c.args.nodes.now) (c.held-item.result.property ∷ reversed_in ((above c.args.at (nested c.args.frame.now.nodes)) c.held-item.result.frame)) (in_reverses (build_reverses (above c.args.at (nested c.args.frame.now.nodes)) c.args.props.now)) (IsOfNode c.args.graph.now c.args.id.now) (IsOfNode c.args.graph.now c.args.id.now) (this_reverse_among (above c.args.at (nested c.args.frame.now.nodes)) c.args.props.now c.loop-held.held-index c.held-item.result (subst (λ xs. c.loop-held.held-index < length xs) c.as_slice-held-items.ensures c.loop-held-test.true) (subst (λ xs. c.held-item.result ≡ get_or xs c.loop-held.held-index c.held-item.result) c.as_slice-held-items.ensures c.held-item.is)) (λ x here. here))
     (λ views. ap (λ p. then (arriving_part views (embed views c.args.room) c.args.graph.now c.args.id.now p (c.held-item.result.property, (above c.args.at (nested c.args.frame.now.nodes)) c.held-item.result.frame) (state_of c.loop-held.walk)) (λ made then_state. gives (with_reverse c.held-item.result.property made (map reverse_data c.loop-held.made)) then_state)) c.loop-held.invariant.path ∙ arrives views (embed views c.args.room) c.args.graph.now c.args.id.now (path_of c.args.walk.now) (above c.args.at (nested c.args.frame.now.nodes)) (map reverse_data c.loop-held.made) c.held-item.result (state_of c.loop-held.walk))
     (λ views. refl)
 
-pub reverse_props-returns-clause-run : goal.reverse_props-returns-clause-run
-reverse_props-returns-clause-run g t c = comes_to_an_end (λ views. arriving_next views (embed views c.args.room) c.args.graph.now c.args.id.now (path_of c.args.walk.now) (above c.args.at (nested c.args.frame.now.nodes))) (λ views. reverses_part views (embed views c.args.room) c.args.graph.now c.args.id.now (path_of c.args.walk.now) (above c.args.at (nested c.args.frame.now.nodes)) c.args.props.now (state_of c.args.walk.now)) [] (map reverse_data c.loop-held.made) c.args.props.now c.loop-held.held-index (state_of c.args.walk.now) (state_of c.loop-held.walk) (omega (arith, ap length c.as_slice-held-items.ensures)) c.loop-held.invariant.gained (λ views. refl)
+pub reverses_part-returns-clause-run : goal.reverses_part-returns-clause-run
+reverses_part-returns-clause-run g t c = comes_to_an_end (λ views. arriving_next views (embed views c.args.room) c.args.graph.now c.args.id.now (path_of c.args.walk.now) (above c.args.at (nested c.args.frame.now.nodes))) (λ views. reverses_part views (embed views c.args.room) c.args.graph.now c.args.id.now (path_of c.args.walk.now) (above c.args.at (nested c.args.frame.now.nodes)) c.args.props.now (state_of c.args.walk.now)) [] (map reverse_data c.loop-held.made) c.args.props.now c.loop-held.held-index (state_of c.args.walk.now) (state_of c.loop-held.walk) (omega (arith, ap length c.as_slice-held-items.ensures)) c.loop-held.invariant.gained (λ views. refl)

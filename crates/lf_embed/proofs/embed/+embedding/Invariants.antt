@@ -46,8 +46,8 @@ decreases-property_values g l = 20 * (65536 - (state_of l.walk.now).count) + 9
 abbrev pub decreases-emit_all : goal.decreases-emit_all
 decreases-emit_all g l = 20 * (65536 - (state_of l.walk.now).count) + 8
 
-abbrev pub decreases-emit : goal.decreases-emit
-decreases-emit g l = 20 * (65536 - (state_of l.walk.now).count) + 6
+abbrev pub decreases-emit_accepted : goal.decreases-emit_accepted
+decreases-emit_accepted g l = 20 * (65536 - (state_of l.walk.now).count) + 6
 
 abbrev pub decreases-emit_list : goal.decreases-emit_list
 decreases-emit_list g l = 20 * (65536 - (state_of l.walk.now).count) + 0
@@ -58,11 +58,11 @@ decreases-emit_reference g l = 20 * (65536 - (state_of l.walk.now).count) + 4
 abbrev pub decreases-reverse_part : goal.decreases-reverse_part
 decreases-reverse_part g l = 20 * (65536 - (state_of l.walk.now).count) + 7
 
-abbrev pub decreases-reverse_props : goal.decreases-reverse_props
-decreases-reverse_props g l = 20 * (65536 - (state_of l.walk.now).count) + 6
+abbrev pub decreases-reverses_part : goal.decreases-reverses_part
+decreases-reverses_part g l = 20 * (65536 - (state_of l.walk.now).count) + 6
 
-abbrev pub decreases-arriving : goal.decreases-arriving
-decreases-arriving g l = 20 * (65536 - (state_of l.walk.now).count) + 4
+abbrev pub decreases-arriving_part : goal.decreases-arriving_part
+decreases-arriving_part g l = 20 * (65536 - (state_of l.walk.now).count) + 4
 
 abbrev pub invariant-keys_part-loop-id : goal.invariant-keys_part-loop-id
 invariant-keys_part-loop-id g l =
@@ -100,8 +100,8 @@ invariant-emit_all-loop-value g l =
           (λ views. through (entry_next views (embed views l.room) l.graph (path_of l.initial.walk) (form_of l.frame.nodes l.form)) [] (take l.value-index l.values) (state_of l.initial.walk)) (Some (gives (map entry_data l.entries) (state_of l.walk)));
     }
 
-abbrev pub invariant-reverse_props-loop-held : goal.invariant-reverse_props-loop-held
-invariant-reverse_props-loop-held g l =
+abbrev pub invariant-reverses_part-loop-held : goal.invariant-reverses_part-loop-held
+invariant-reverses_part-loop-held g l =
     record {
       stays : g.N.Nodes.quads l.nodes ≡ g.N.Nodes.quads l.initial.nodes;
       path : path_of l.walk ≡ path_of l.initial.walk;

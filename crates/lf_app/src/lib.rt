@@ -6,6 +6,8 @@ mod data_files;
 mod frame_file;
 mod framing;
 mod laws;
+#[cfg(test)]
+mod limit_tests;
 mod print;
 mod program;
 mod run;

@@ -412,6 +412,41 @@ fn nodes_are_framed(rt: HostRuntime) -> Result<(), Fail> {
     Ok(())
 }
 
+// Whether a data file is refused by its first line, which has a bad escape.
+fn has_bad_escape(alloc: Global, data: &str) -> Result<bool, Memory> {
+    let files = Files {
+        frame: "{}",
+        data,
+        more: "",
+    };
+    ends(
+        alloc,
+        &["frame", "f", "d"],
+        &files,
+        6,
+        "d line 1: bad escape",
+    )
+}
+
+// line-forms: labels with a dot inside and before the end of a quad, and escapes of what no IRI and
+// no text has.
+#[test]
+fn lines_have_many_forms(rt: HostRuntime) -> Result<(), Fail> {
+    let alloc = rt.alloc();
+    assert!(rt;
+        prints_of_two(
+            alloc,
+            "{}",
+            "_:a.b <http://e/p> _:c .\n",
+            "- _:a.b <http://e/p> _:c.",
+            "{}"
+        )?
+    );
+    assert!(rt; has_bad_escape(alloc, "<http://e/\\u0020> <http://e/p> \"x\" .\n")?);
+    assert!(rt; has_bad_escape(alloc, "<http://e/a> <http://e/p> \"\\uD800\" .\n")?);
+    Ok(())
+}
+
 #[test]
 fn lists_are_output(rt: HostRuntime) -> Result<(), Fail> {
     let alloc = rt.alloc();

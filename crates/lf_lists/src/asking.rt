@@ -23,8 +23,8 @@ fn quads_of(alloc: Global, answer: Answer) -> QuadList
     }
 }
 
-// The answer to a question that is answered by quads.
-fn ask_quads<O: Oracle, L: Ledger>(
+/// The answer to a question that is answered by quads.
+pub fn ask_quads<O: Oracle, L: Ledger>(
     alloc: Global,
     oracle: &mut O,
     question: &Question,

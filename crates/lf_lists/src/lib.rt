@@ -12,8 +12,8 @@ mod shape;
 mod tests;
 mod value;
 
-pub use asking::{is_named, quads_out, quads_using};
+pub use asking::{ask_quads, is_named, quads_out, quads_using};
 pub use cell::is_cell;
 pub use known::KnownCells;
-pub use shape::is_nil;
+pub use shape::{is_nil, tells_item, tells_rest};
 pub use value::{list_at, value_at};

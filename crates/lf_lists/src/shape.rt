@@ -44,6 +44,22 @@ pub fn is_nil(term: &Term) -> bool
     is_iri(RDF_NIL, term)
 }
 
+/// Whether a quad tells an item of a list, by `rdf:first` (RDF Schema 1.1, section 5.2.2).
+#[tactic(auto, unfolding(lf_rdf::specs::Vocabulary::rdf_first))]
+pub fn tells_item(quad: &Quad) -> bool
+    ensures { result ≡ is_iri rdf_first quad.now.predicate }
+{
+    is_iri(RDF_FIRST, &quad.predicate)
+}
+
+/// Whether a quad tells the rest of a list, by `rdf:rest` (RDF Schema 1.1, section 5.2.3).
+#[tactic(auto, unfolding(lf_rdf::specs::Vocabulary::rdf_rest))]
+pub fn tells_rest(quad: &Quad) -> bool
+    ensures { result ≡ is_iri rdf_rest quad.now.predicate }
+{
+    is_iri(RDF_REST, &quad.predicate)
+}
+
 // Whether an object is the class `rdf:List`.
 #[tactic(auto, unfolding(lf_rdf::specs::Vocabulary::rdf_list))]
 fn is_list_class(term: &Term) -> bool

@@ -1,29 +1,19 @@
 //! Single questions for the quads of a subject, the quads that point at an object and the nodes of
 //! a graph.
 ghost use Rattle.std.specs.Prelude.{◌≡◌, ◌+◌, [], ◌∷◌, IfOk, IsTrue, OnOk};
-ghost use Rattle.lf_rdf.specs.declared.question.Answer.TheVariants.{Quads, Terms};
+ghost use Rattle.lf_rdf.specs.declared.question.Answer.TheVariants.{Terms};
 ghost use Rattle.def_datasets.specs.Questions.{answer, inward, members, out_any};
 ghost use Rattle.lf_oracle.specs.Asking.{Learns, asks_one_graph, is_one_graph, told_with};
 ghost use Rattle.lf_oracle.specs.Nearby.{IsNearMembers};
-ghost use Rattle.lf_lists.specs.Learning.{NearTo, asks_quads, quads_in};
+ghost use Rattle.lf_lists.specs.Learning.{NearTo};
 ghost use Rattle.lf_nodes.specs.Asked.{IsInward, asks_terms, terms_in};
 
 use lf_base::{Memory, Steps, TryCopy};
+use lf_lists::ask_quads;
 use lf_oracle::Oracle;
 use lf_rdf::{Answer, GraphRef, QuadList, Question, Term, TermList};
 use std::alloc::Global;
 use std::sync::ledger::Ledger;
-
-// The quads of an answer; no other answer has them.
-fn quads_of(alloc: Global, answer: Answer) -> QuadList
-    ensures { result ≡ quads_in answer }
-{
-    match answer {
-        Answer::Flag(_) => QuadList::new(alloc),
-        Answer::Quads(quads) => quads,
-        Answer::Terms(_) => QuadList::new(alloc),
-    }
-}
 
 // The terms of an answer; no other answer has them.
 fn terms_of(alloc: Global, answer: Answer) -> TermList
@@ -34,24 +24,6 @@ fn terms_of(alloc: Global, answer: Answer) -> TermList
         Answer::Quads(_) => TermList::new(alloc),
         Answer::Terms(terms) => terms,
     }
-}
-
-// The answer to a question that is answered by quads.
-fn ask_quads<O: Oracle, L: Ledger>(
-    alloc: Global,
-    oracle: &mut O,
-    question: &Question,
-    steps: &mut Steps<L>,
-) -> Result<QuadList, Memory>
-    requires quads { IsTrue (asks_quads question.now) }
-    requires graph { IsTrue (asks_one_graph question.now) }
-    ensures answers { IfOk result (λ given. answer (O.quads oracle.old) question.now ≡ Quads given) }
-    ensures quads_stay { O.quads oracle.new ≡ O.quads oracle.old }
-    ensures tells { OnOk result (O.told oracle.new ≡ told_with (question.now ∷ []) (O.told oracle.old)) }
-    ensures counts { steps.new ≡ steps.old + 1 }
-{
-    let answer = oracle.ask(alloc, question, steps)?;
-    Ok(quads_of(alloc, answer))
 }
 
 // The answer to a question that is answered by terms.

@@ -2,14 +2,13 @@
 ghost use Rattle.std.specs.Prelude.{◌≡◌, List, ℕ, ◌∷◌, [], ◌++◌, map, Some, IfOk, IsTrue, OnOk};
 ghost use Rattle.std.specs.List.{filter};
 ghost use Rattle.std.specs.Option.{option_copied};
-ghost use Rattle.lf_rdf.specs.Vocabulary.{rdf_first, rdf_rest, rdf_type};
 ghost use Rattle.lf_rdf.specs.declared.question.GraphRef.{GraphRef as TheGraph};
 ghost use Rattle.lf_rdf.specs.declared.term.Term.TheVariants.{Iri};
 ghost use Rattle.lf_rdf.specs.Equality.{term_eq};
 ghost use Rattle.lf_rdf.specs.Canonical.{id_of};
 ghost use Rattle.def_datasets.specs.Sorted.{set_of};
 ghost use Rattle.def_datasets.specs.Order.{id_cmp};
-ghost use Rattle.def_datasets.specs.Terms.{graph_of, is_iri, is_node};
+ghost use Rattle.def_datasets.specs.Terms.{graph_of, is_node};
 ghost use Rattle.def_datasets.specs.Views.{pointing};
 ghost use Rattle.lf_oracle.specs.Asking.{Learns};
 ghost use Rattle.lf_oracle.specs.Nearby.{IsNearOne, IsPointing};
@@ -23,41 +22,12 @@ use crate::entries::is_type_quad;
 use crate::home::graph_of;
 use def_datasets::{is_node, lies_in};
 use lf_base::{Memory, Same, Steps, Text, TryCopy};
-use lf_lists::{is_cell, is_nil, quads_using};
+use lf_lists::{is_cell, is_nil, quads_using, tells_item, tells_rest};
 use lf_oracle::Oracle;
 use lf_order::{ById, id_text, in_id_order};
 use lf_rdf::{GraphRef, Quad, QuadList, Term, TermList, is_rdf_type};
 use std::alloc::Global;
 use std::sync::ledger::Ledger;
-
-const RDF_FIRST: &str = "http://www.w3.org/1999/02/22-rdf-syntax-ns#first";
-
-const RDF_REST: &str = "http://www.w3.org/1999/02/22-rdf-syntax-ns#rest";
-
-// Whether a term is this IRI.
-fn is_iri(iri: &str, term: &Term) -> bool
-    ensures { result ≡ is_iri iri.now term.now }
-{
-    match term {
-        Term::Iri(other) => iri == other.as_str(),
-        Term::Blank(_) => false,
-        Term::Literal { .. } => false,
-    }
-}
-
-#[tactic(auto, unfolding(lf_rdf::specs::Vocabulary::rdf_first))]
-fn tells_item(quad: &Quad) -> bool
-    ensures { result ≡ is_iri rdf_first quad.now.predicate }
-{
-    is_iri(RDF_FIRST, &quad.predicate)
-}
-
-#[tactic(auto, unfolding(lf_rdf::specs::Vocabulary::rdf_rest))]
-fn tells_rest(quad: &Quad) -> bool
-    ensures { result ≡ is_iri rdf_rest quad.now.predicate }
-{
-    is_iri(RDF_REST, &quad.predicate)
-}
 
 // Whether a quad tells the item or the rest of a list node.
 fn is_link(quad: &Quad) -> bool

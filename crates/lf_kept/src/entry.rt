@@ -22,6 +22,10 @@ pub struct Kept {
     pub(crate) asked: u64,
 }
 
+// What took so many questions is asked for again rather than kept: by one question, for its own
+// quads, a node is seen that has such quads and no blank node among their objects.
+const CHEAP: u64 = 1;
+
 /// What was found of nodes, by their names.
 pub(crate) type KeptViews = BTreeMap<Text, Kept>;
 
@@ -116,4 +120,23 @@ pub(crate) fn first_view<O: Oracle, L: Ledger>(
         found,
         asked,
     })
+}
+
+/// Gives what was learnt of a node, and keeps it where it isn't cheap to ask for again.
+pub(crate) fn keep_dear(
+    alloc: Global,
+    kept: &mut KeptViews,
+    key: Text,
+    first: Kept,
+) -> Result<Option<NodeView>, Memory>
+    ensures found { IfOk result (λ found. found ≡ first.found) }
+    ensures kept { (dataset : List Quad) → AllKept dataset kept.old → IsKept dataset first →
+        AllKept dataset kept.new }
+{
+    let found = first.found.copy(alloc)?;
+    if first.asked <= CHEAP {
+        return Ok(found);
+    }
+    kept.insert(key, first)?;
+    Ok(found)
 }

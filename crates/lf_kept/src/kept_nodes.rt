@@ -1,7 +1,7 @@
 //! The nodes that are seen by asking an oracle, each view asked for once.
 ghost use Rattle.std.specs.Prelude.{◌≡◌};
 
-use crate::entry::{KeptViews, again, first_view};
+use crate::entry::{KeptViews, again, first_view, keep_dear};
 use crate::key::key_of;
 use crate::telling::Telling;
 use lf_base::{Memory, Steps, TryCopy};
@@ -15,14 +15,14 @@ use std::marker::Model;
 use std::sync::ledger::Ledger;
 
 /// The nodes of the dataset that an oracle answers about, as framing sees them (JSON-LD 1.1
-/// Framing, section 4.1). Each view is kept, and given again with as many steps; its questions are
-/// asked once. So for the trees of all nodes of a dataset the oracle is asked about each node once,
-/// however many refer to it. The questions aren't told.
+/// Framing, section 4.1). A view that took more than one question is kept, and given again with as
+/// many steps; its questions are asked once. So for the trees of all nodes of a dataset the oracle
+/// is asked once for the uses of a node, however many refer to it. The questions aren't told.
 ///
-/// What is kept is one view for each graph and node that was asked for, also where the node is no
-/// key: its properties with their values, whose texts are shared with the answers, and a name of
-/// its own. So the memory grows with the quads of the nodes that were visited, and nothing of it is
-/// given back before the end. Contracts see the quads.
+/// What is kept is a view for each graph and node that was asked for and has no quads of its own
+/// there, or that refers to blank nodes or is one: its properties with their values, whose texts
+/// are shared with the answers, and a name of its own. Nothing of it is given back before the end.
+/// Contracts see the quads.
 #[derive(Drop)]
 pub struct KeptNodes<O: Oracle> {
     pub(crate) telling: Telling<O>,
@@ -63,9 +63,10 @@ impl<O: Oracle> Nodes for KeptNodes<O> {
 
     ghost told = { λ nodes. None };
 
-    /// The view of a node: asked for once, as [`view_of`](lf_nodes::view_of) does, then kept. When
-    /// it is asked for again, it takes a search among n views, some log n comparisons of texts, a
-    /// copy of the view, and a tick for each question of the first time.
+    /// The view of a node: asked for as [`view_of`](lf_nodes::view_of) does, then kept where that
+    /// took more than one question. When a kept one is asked for again, it takes a search among n
+    /// views, some log n comparisons of texts, a copy of the view, and a tick for each question of
+    /// the first time.
     fn node<L: Ledger>(
         &mut self,
         alloc: Global,
@@ -78,8 +79,7 @@ impl<O: Oracle> Nodes for KeptNodes<O> {
             Some(found) => Ok(found),
             None => {
                 let first = first_view(alloc, &mut self.telling, graph, id, steps)?;
-                let found = first.found.copy(alloc)?;
-                self.kept.insert(key, first)?;
+                let found = keep_dear(alloc, &mut self.kept, key, first)?;
                 Ok(found)
             }
         }

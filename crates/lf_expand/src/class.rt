@@ -67,7 +67,7 @@ impl KeptKeys {
     }
 
     // Whether `@set` is the only one.
-    fn is_set_only(self) -> bool
+    fn is_alone(self) -> bool
         ensures { result ≡ is_alone self }
     {
         self.any && !self.more && self.set_first
@@ -81,7 +81,7 @@ impl KeptKeys {
             MapClass::Value
         } else if self.of_list {
             MapClass::List
-        } else if self.is_set_only() {
+        } else if self.is_alone() {
             MapClass::Set
         } else {
             MapClass::Node
@@ -123,7 +123,7 @@ fn map_for_null(alloc: Global, terms: &Terms<'_>, members: &JsonMap) -> Result<b
         return Ok(false);
     }
     let keys = kept_keys(alloc, terms, members)?;
-    Ok(keys.is_set_only())
+    Ok(keys.is_alone())
 }
 
 // Whether a value under `@set` stands for null.

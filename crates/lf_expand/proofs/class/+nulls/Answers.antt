@@ -10,7 +10,7 @@ pub map_for_null-returns : goal.map_for_null-returns
 map_for_null-returns t c =
     let keys = kept c.args.terms.now.table.now (members_data c.args.members.now) in
     let null : set_for_null c.args.terms.now.table.now (members_data c.args.members.now) ≡ true = search rules in
-    c.is_set_only.ensures ∙ ap is_alone c.in_ok-keys.ensures ∙ sym (alone_is keys) ∙ sym (both_ways (is_set_only keys) _ null)
+    c.is_alone.ensures ∙ ap is_alone c.in_ok-keys.ensures ∙ sym (alone_is keys) ∙ sym (both_ways (is_set_only keys) _ null)
 
 pub stands_for_null-returns-in-Map : goal.stands_for_null-returns-in-Map
 stands_for_null-returns-in-Map t c =

@@ -65,13 +65,13 @@ fn give_older<R: Rota>(alloc: Global, rota: &mut R, job: R::Job) -> Result<Turne
     ensures same_taken { R.taken rota.new ≡ R.taken rota.old }
 {
     match rota.give(alloc, job) {
-        Ok(given) => published(given),
+        Ok(given) => publication_or_memory(given),
         Err(Memory) => Err(Memory),
     }
 }
 
 // What a turn that found no memory answers: a publication alone.
-fn published(given: Turned) -> Result<Turned, Memory>
+fn publication_or_memory(given: Turned) -> Result<Turned, Memory>
     ensures { KeepsPublished given result }
 {
     match given {

@@ -13,6 +13,8 @@ use Rattle.def_histories.specs.declared.operation.Operation.{Operation}
 use Rattle.def_histories.specs.declared.operation.Operation.TheVariants.{Commit, Register}
 use Rattle.def_histories.specs.History.{commits}
 use Rattle.def_histories.specs.Legal.{IsLegal}
+use Rattle.lf_core.specs.declared.ready.Lent.{Lent}
+use Rattle.lf_core.specs.declared.ready.Lent.TheVariants as l
 use Rattle.lf_core.specs.declared.ready.NewFrame.{NewFrame}
 use Rattle.lf_core.specs.declared.ready.Prepared.{Prepared}
 use Rattle.lf_core.specs.declared.ready.Prepared.TheVariants as p
@@ -31,6 +33,11 @@ abbrev pub prepares : Prepared → Prepares
 prepares (p.Commit commit version) =
     record { operation = committing (arc_value commit); version = Some version }
 prepares (p.Register new) = record { operation = registering new; version = None }
+
+-- the operation that is lent
+abbrev pub lent_operation : Lent → Operation
+lent_operation (l.Commit commit) = committing (arc_value commit.now)
+lent_operation (l.Register seat name text) = Register seat name.now text.now
 
 -- the handles of a new frame are of one name and one text, and its frame and its board are of the
 -- text

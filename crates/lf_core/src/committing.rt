@@ -34,7 +34,7 @@ fn version_after(alloc: Global, newest: &Version, commit: Arc<Commit>) -> Result
 }
 
 // Two handles of a commit.
-fn shared(alloc: Global, seat: u64, patch: Patch) -> Result<(Arc<Commit>, Arc<Commit>), Memory>
+fn two_handles(alloc: Global, seat: u64, patch: Patch) -> Result<(Arc<Commit>, Arc<Commit>), Memory>
     ensures one { IfOk result (λ made. arc_value made.0 ≡ record { seat = seat; patch = patch }) }
     ensures two { IfOk result (λ made. arc_value made.1 ≡ record { seat = seat; patch = patch }) }
 {
@@ -61,7 +61,7 @@ impl State {
         self.history_is_legal();
         check_commit(self, patch.bytes)?;
         self.more_places()?;
-        let (commit, other) = shared(alloc, seat, patch)?;
+        let (commit, other) = two_handles(alloc, seat, patch)?;
         match version_after(alloc, self.newest(), other) {
             Ok(version) => Ok(Ready {
                 prepared: Prepared::Commit { commit, version },

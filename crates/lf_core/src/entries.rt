@@ -27,7 +27,7 @@ pub fn enter(history: &mut Vec<Entry>, entry: Entry)
 }
 
 // The entries that the history of so many live frames may need room for, with one place more.
-fn needed(places: usize, frames: usize) -> Option<usize>
+fn room_for(places: usize, frames: usize) -> Option<usize>
     ensures { IfSome result (λ more. more ≡ frames + (places + 1 + (places + 1))) }
 {
     let places = places.checked_add(1)?;
@@ -45,7 +45,7 @@ pub fn add_place(history: &mut Vec<Entry>, places: usize, frames: usize) -> Resu
     ensures placed { IfOk result
         (λ more. length history.new.items + (frames + (more + more)) ≤ vec_capacity history.new) }
 {
-    match needed(places, frames) {
+    match room_for(places, frames) {
         Some(more) => {
             history.reserve(more)?;
             Ok(places + 1)

@@ -19,5 +19,5 @@ mod turns;
 
 pub use core_desk::CoreDesk;
 pub use job::Job;
-pub use ready::Ready;
+pub use ready::{Lent, Ready};
 pub use state::State;

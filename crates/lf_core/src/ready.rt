@@ -2,7 +2,7 @@
 ghost use Rattle.std.specs.Prelude.{◌≡◌, IfOk};
 ghost use Rattle.def_histories.specs.declared.operation.Operation.TheVariants.{Register};
 ghost use Rattle.lf_core.specs.Kept.{IsMeant};
-ghost use Rattle.lf_core.specs.Prepared.{IsNew};
+ghost use Rattle.lf_core.specs.Prepared.{IsNew, lent_operation};
 
 use lf_base::{Memory, Text, TryCopy};
 use lf_board::HomeBoard;
@@ -48,6 +48,17 @@ pub struct Ready {
     pub(crate) prepared: Prepared,
 }
 
+/// The operation of what is ready, lent: of a commit the handle that the history will hold.
+#[derive(Clone, Copy)]
+pub enum Lent<'a> {
+    Commit(&'a Arc<Commit>),
+    Register {
+        seat: u64,
+        name: &'a Text,
+        text: &'a Text,
+    },
+}
+
 impl Model for Ready {
     ghost use Rattle.std.specs.Coded.{codes};
     ghost use Rattle.lf_model.specs.contracts.json.Json as json;
@@ -60,6 +71,22 @@ impl Model for Ready {
     ghost view = { λ r. prepares r.prepared };
 
     ghost invariant = { λ r. IsPrepared r.prepared };
+}
+
+impl Ready {
+    /// The operation that it makes when it is put.
+    pub fn operation(&self) -> Lent<'_>
+        ensures { lent_operation result ≡ self.now.operation }
+    {
+        match &self.prepared {
+            Prepared::Commit { commit, .. } => Lent::Commit(commit),
+            Prepared::Register(new) => Lent::Register {
+                seat: new.seat,
+                name: &new.name,
+                text: &new.text,
+            },
+        }
+    }
 }
 
 /// Makes what a registration puts.

@@ -12,12 +12,9 @@ use crate::limits::check_registration;
 use crate::ready::{Prepared, Ready, new_frame};
 use crate::state::State;
 use lf_desk::{RegisterErr, is_frame_name};
-use lf_frames::{FrameTextErr, read_frame};
+use lf_frames::{FrameTextErr, MOST_FRAME_BYTES, read_frame};
 use lf_model::Frame;
 use std::alloc::Global;
-
-// The most bytes of a frame's text.
-const MOST_FRAME_BYTES: usize = 65_536;
 
 // The frame of a text, or why it is refused.
 fn frame_of(alloc: Global, text: &str) -> Result<Frame, RegisterErr>

@@ -1,10 +1,11 @@
 //! Boards that go out and come home: a board is turned and published, and one whose text was
-//! registered anew is dropped.
+//! registered anew is dropped. States, jobs and what is ready may move to another thread.
 ghost use Rattle.std.specs.Prelude.{◌≡◌, ◌<◌, ◌≤◌, ◌++◌, List};
 ghost use Rattle.def_histories.specs.declared.operation.Operation.{Operation};
 ghost use Rattle.lf_core.specs.Taken.{FitsHistory};
 
 use crate::job::Job;
+use crate::ready::Lent;
 use crate::state::State;
 use def_turns::Turned;
 use lf_base::{Memory, Steps};
@@ -19,6 +20,30 @@ const ALL: &str = "{}";
 
 const TYPED: &str = "{\"@type\":\"http://e/T\"}";
 
+// What is of this type may move to another thread.
+fn may_move<T: Send>(_: &T) {}
+
+// Makes a commit ready, puts it, and says whether it lent the operation of this seat.
+fn lends_and_puts(
+    alloc: Global,
+    state: &mut State,
+    seat: u64,
+    patch: Patch,
+) -> Result<bool, Memory> {
+    match state.ready_commit(alloc, seat, patch) {
+        Ok(ready) => {
+            may_move(&ready);
+            let lent = match ready.operation() {
+                Lent::Commit(commit) => commit.seat == seat,
+                Lent::Register { .. } => false,
+            };
+            state.put(ready);
+            Ok(lent)
+        }
+        Err(_) => Err(Memory),
+    }
+}
+
 // Turns a job's board and gives it back.
 fn turn_and_give<L: Ledger>(
     alloc: Global,
@@ -30,6 +55,7 @@ fn turn_and_give<L: Ledger>(
     requires place { 1 ≤ state.old.places }
 {
     let mut job = job;
+    may_move(&job);
     match job.work(alloc, steps) {
         Ok(()) => Ok(state.give_back(job)),
         Err(Memory) => {
@@ -81,6 +107,7 @@ fn prepare(alloc: Global, state: &mut State) -> bool {
     is_registered(alloc, state, ALL) && committed
 }
 
+// A look gives the document of version 1 with this text.
 fn is_document(look: &Look, text: &str) -> bool {
     match look {
         Look::Document { doc, version } => match &**doc {
@@ -176,5 +203,21 @@ fn a_turned_board_is_published(rt: HostRuntime) -> Result<(), Fail> {
 fn superseded(rt: HostRuntime) -> Result<(), Fail> {
     let held = row::<Brand>(rt.alloc(), false, Blank::new(1));
     assert!(rt; held?);
+    Ok(())
+}
+
+#[test]
+fn what_is_ready_is_put(rt: HostRuntime) -> Result<(), Fail> {
+    let alloc = rt.alloc();
+    let mut state = State::new(alloc)?;
+    may_move(&state);
+    let idle = Patch {
+        lines: SignedList::new(alloc),
+        bytes: 0,
+    };
+    let held = lends_and_puts(alloc, &mut state, 7, idle);
+    let version = state.newest().number();
+    drop(state);
+    assert!(rt; held? && version == 1);
     Ok(())
 }

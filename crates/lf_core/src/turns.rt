@@ -1,5 +1,5 @@
 //! Boards that go out and come home.
-ghost use Rattle.std.specs.Prelude.{◌≡◌, ◌≤◌, ◌+◌, ◌++◌, IfOk, Some};
+ghost use Rattle.std.specs.Prelude.{◌≡◌, ◌≤◌, ◌+◌, ◌++◌, length, IfOk, Some};
 ghost use Rattle.std.specs.Arc.{arc_value};
 ghost use Rattle.std.specs.Option.{option_copied, option_map};
 ghost use Rattle.def_turns.specs.declared.turned.Given.TheVariants.{IsSuperseded, Publishes};
@@ -165,14 +165,15 @@ impl State {
     /// Gives a job back. `Superseded` comes exactly where its text isn't live under its name any
     /// more; then the board is dropped. `Published` comes exactly where otherwise the board's
     /// version is above the published one, and the document is published under the board's own
-    /// version. Else the board is at home again. It takes no memory.
+    /// version. Else the board is at home again. It takes no memory, and of places at most the one
+    /// of the entry that it makes.
     pub fn give_back(&mut self, job: Job) -> Turned
         requires fits { FitsHistory self.old.history job }
         requires place { NeedsPlace self.old job }
         ensures answer { result ≡ given_job self.old.history job }
         ensures entry { self.new.history ≡ self.old.history ++ entry_of result }
         ensures boards { HasBack self.old job result self.new.boards }
-        ensures places { self.old.places ≤ self.new.places + 1 }
+        ensures places { self.old.places ≤ self.new.places + length (entry_of result) }
     {
         match self.would_give(&job) {
             Given::Publishes => self.publish(job),
@@ -197,7 +198,7 @@ impl State {
         ensures { result ≡ kind_of (given_job self.now.history job.now) }
     {
         match find_kept(self.frames.as_slice(), job.frame.as_str()) {
-            Some(kept) => given(kept, job),
+            Some(kept) => kind_given(kept, job),
             None => Given::IsSuperseded,
         }
     }
@@ -207,6 +208,7 @@ impl State {
         requires fits { FitsHistory self.old.history job }
         requires live { IsStillLive self.old.history job }
         ensures answer { result ≡ t.Home job.name (number job.board) }
+        ensures no_entry { length (entry_of result) ≡ 0 }
         ensures history { self.new.history ≡ self.old.history }
         ensures boards { HasHome self.old.boards job self.new.boards }
         ensures places { self.new.places ≡ self.old.places }
@@ -236,7 +238,7 @@ impl State {
         ensures answer { result ≡ given_job self.old.history job }
         ensures entry { self.new.history ≡ self.old.history ++ entry_of result }
         ensures boards { HasBack self.old job result self.new.boards }
-        ensures places { self.old.places ≤ self.new.places + 1 }
+        ensures places { self.old.places ≤ self.new.places + length (entry_of result) }
     {
         let Job {
             frame,
@@ -262,6 +264,7 @@ impl State {
     fn supersede(&self, job: Job) -> Turned
         requires superseded { kind_of (given_job self.now.history job) ≡ IsSuperseded }
         ensures answer { result ≡ given_job self.now.history job }
+        ensures no_entry { length (entry_of result) ≡ 0 }
         ensures boards { HasBack self.now job result self.now.boards }
     {
         let Job {
@@ -294,7 +297,7 @@ fn number_of(frames: &[Kept], name: &str) -> Option<u64>
 }
 
 // What giving a job back to a live frame would answer.
-fn given(kept: &Kept, job: &Job) -> Given
+fn kind_given(kept: &Kept, job: &Job) -> Given
     ensures { result
         ≡ kind_of
         (given_to (Some kept.now.live) job.now.name job.now.number (number job.now.board)) }

@@ -11,7 +11,7 @@ pub returns-in-Some : goal.returns-in-Some
 returns-in-Some c =
     let found : find_kept c.args.job.now.name c.self.inside.frames.items ≡ Some c.in-Some.kept.now =
     (λ i. find_kept (sym (c.as_str.ensures ∙ ap (λ (job : Taken). job.name) c.job.view_is) i) (sym c.as_slice.ensures.value i)) ∙ sym c.in-Some.ensures in
-    c.given.ensures
+    c.kind_given.ensures
     ∙ ap (λ (o : Option Live). kind_of (given_to o c.args.job.now.name c.args.job.now.number (number c.args.job.now.board)))
     (sym (live_in c.args.self.now _ c.self.inside.frames.items _ c.args.job.now.name c.in-Some.kept.now c.self.view_is c.self.invariant.same_frames found))
 

@@ -151,7 +151,7 @@ pub fn object_of(alloc: Global, members: Members) -> Result<Json, Memory>
 {
     let mut members = members;
     let _ = members.len();
-    let mut written = Vec::new(alloc);
+    let mut written = Vec::with_capacity(alloc, members.len())?;
     while let Some((key, joined)) = members.pop_first() {
         written.push(Entry {
             key,

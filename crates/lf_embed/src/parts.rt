@@ -52,6 +52,16 @@ fn joined(values: TreePropList, defaults: TreePropList) -> Result<TreePropList, 
     Ok(props)
 }
 
+// The same values in no more memory than they take: most properties have one, and a list that grew
+// by one has room for four.
+fn fitted(entries: TreeValueList) -> TreeValueList
+    ensures { result ≡ entries }
+{
+    let mut values = entries.into_vec();
+    values.shrink_to_fit();
+    TreeValueList::from_vec(values)
+}
+
 /// A property joins those that were output where a value of it was.
 #[tactic(auto, using(lf_model::proofs::TreeLemmas::tree_cases))]
 pub fn add_property(
@@ -68,7 +78,7 @@ pub fn add_property(
     }
     made.push(TreeProp {
         property: property.copy(alloc)?,
-        values: entries,
+        values: fitted(entries),
     })?;
     Ok(())
 }

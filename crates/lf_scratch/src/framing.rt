@@ -84,10 +84,10 @@ fn deciding_outcomes<L: Ledger>(
 /// The document of a frame over the quads of an index: that of what the frame gives for each term,
 /// in order of the ids (JSON-LD 1.1 Framing, section 4.1). It keeps nothing for a later version.
 ///
-/// Each node is viewed once, so the questions grow with the nodes of the graphs. No tree is made
-/// behind the first that decides, by a limit of its own or as the one with which the items are more
-/// than 262,144: so at most so many items and those of one more tree are made and held, besides the
-/// views, also where the document is over a limit.
+/// A view that took more than one question is kept, so the uses of a node are asked for once,
+/// whatever refers to it. No tree is made behind the first that decides, by a limit of its own or
+/// as the one with which the items are more than 262,144: so at most so many items and those of one
+/// more tree are made and held, besides the views, also where the document is over a limit.
 pub fn frame_dataset(alloc: Global, index: &Index, frame: &Frame) -> Result<Doc, Memory>
     ensures { IfOk result (λ doc. doc ≡ scratch_frame frame.now index.now) }
 {

@@ -6,8 +6,8 @@ use Rattle.lf_session.proofs.OneStep.{step-once}
 use Rattle.lf_session.proofs.Answered.{put-told, put-refused}
 use Rattle.lf_session.proofs.answer.register.Goals as goal
 
-pub registered-requires : goal.registered-requires
-registered-requires g c =
+pub registered_reply-requires : goal.registered_reply-requires
+registered_reply-requires g c =
     registered-short c.in-Ok.ensures.call.seen c.args.name.now c.args.text.now c.in-Ok.fresh c.in-Ok.ensures.call.says
 
 pub returns-in-Ok-clause-step : goal.returns-in-Ok-clause-step

@@ -1,5 +1,5 @@
 //! A board from version to version: the documents of a worked row, by hand-made values of its
-//! frame. Boards may move to another thread.
+//! frame.
 ghost use Rattle.std.specs.Prelude.{◌≡◌, ◌<◌, OnOk};
 ghost use Rattle.def_histories.specs.Jobs.{IsPrefix};
 ghost use Rattle.lf_versions.specs.Commits.{lines_of};
@@ -127,16 +127,11 @@ fn turn_twice<L: Ledger>(
     Ok(shared && pruned)
 }
 
-// What is of this type may move to another thread.
-fn may_move<T: Send>(_: &T) {}
-
 // Whether a board at home that was turned to the second version wakes with the row's last document.
 fn is_woken(home: HomeBoard) -> Result<bool, Memory> {
-    may_move(&home);
     match home.handle() {
         Ok(handle) => {
             let board = Board::wake(home, handle);
-            may_move(&board);
             let woken = board.version() == Some(2) && has_text(&board, PRUNED_DOCUMENT);
             drop(board);
             Ok(woken)

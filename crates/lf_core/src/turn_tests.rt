@@ -1,5 +1,5 @@
 //! Boards that go out and come home: a board is turned and published, and one whose text was
-//! registered anew is dropped. States, jobs and what is ready may move to another thread.
+//! registered anew is dropped.
 ghost use Rattle.std.specs.Prelude.{◌≡◌, ◌<◌, ◌≤◌, ◌++◌, List};
 ghost use Rattle.def_histories.specs.declared.operation.Operation.{Operation};
 ghost use Rattle.lf_core.specs.Taken.{FitsHistory};
@@ -20,9 +20,6 @@ const ALL: &str = "{}";
 
 const TYPED: &str = "{\"@type\":\"http://e/T\"}";
 
-// What is of this type may move to another thread.
-fn may_move<T: Send>(_: &T) {}
-
 // Makes a commit ready, puts it, and says whether it lent the operation of this seat.
 fn lends_and_puts(
     alloc: Global,
@@ -32,7 +29,6 @@ fn lends_and_puts(
 ) -> Result<bool, Memory> {
     match state.ready_commit(alloc, seat, patch) {
         Ok(ready) => {
-            may_move(&ready);
             let lent = match ready.operation() {
                 Lent::Commit(commit) => commit.seat == seat,
                 Lent::Register { .. } => false,
@@ -55,7 +51,6 @@ fn turn_and_give<L: Ledger>(
     requires place { 1 ≤ state.old.places }
 {
     let mut job = job;
-    may_move(&job);
     match job.work(alloc, steps) {
         Ok(()) => Ok(state.give_back(job)),
         Err(Memory) => {
@@ -210,7 +205,6 @@ fn superseded(rt: HostRuntime) -> Result<(), Fail> {
 fn what_is_ready_is_put(rt: HostRuntime) -> Result<(), Fail> {
     let alloc = rt.alloc();
     let mut state = State::new(alloc)?;
-    may_move(&state);
     let idle = Patch {
         lines: SignedList::new(alloc),
         bytes: 0,

@@ -1,1 +1,2 @@
 mod Documents
+pub mod Sends

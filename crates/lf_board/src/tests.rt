@@ -1,5 +1,5 @@
 //! A board from version to version: the documents of a worked row, by hand-made values of its
-//! frame.
+//! frame. Boards may move to another thread.
 ghost use Rattle.std.specs.Prelude.{◌≡◌, ◌<◌, OnOk};
 ghost use Rattle.def_histories.specs.Jobs.{IsPrefix};
 ghost use Rattle.lf_versions.specs.Commits.{lines_of};
@@ -211,5 +211,25 @@ fn a_board_goes_from_version_to_version(rt: HostRuntime) -> Result<(), Fail> {
     let held = shared_blank::<Brand>(alloc, &none, Blank::new(1));
     drop(none);
     assert!(rt; held?);
+    Ok(())
+}
+
+// What is of this type may move to another thread.
+fn may_move<T: Send>(_: &T) {}
+
+// Asks it of a board at work and at home.
+fn moves(board: Board) {
+    may_move(&board);
+    let (home, handle) = board.rest();
+    drop(handle);
+    may_move(&home);
+    drop(home);
+}
+
+#[test]
+fn boards_may_move_between_threads(rt: HostRuntime) -> Result<(), Fail> {
+    let alloc = rt.alloc();
+    moves(Board::new(frame(alloc)?));
+    assert!(rt; true);
     Ok(())
 }

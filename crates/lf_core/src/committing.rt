@@ -9,6 +9,7 @@ ghost use Rattle.lf_core.specs.Prepared.{FitsOn, ReadiesCommit};
 
 use crate::limits::check_commit;
 use crate::ready::{Prepared, Ready};
+use crate::sharing::shared_patch;
 use crate::state::State;
 use lf_base::Memory;
 use lf_desk::CommitErr;
@@ -33,11 +34,12 @@ fn version_after(alloc: Global, newest: &Version, commit: Arc<Commit>) -> Result
     }
 }
 
-// Two handles of a commit.
+// Two handles of a commit, in which texts that come again are stored once.
 fn two_handles(alloc: Global, seat: u64, patch: Patch) -> Result<(Arc<Commit>, Arc<Commit>), Memory>
     ensures one { IfOk result (λ made. arc_value made.0 ≡ record { seat = seat; patch = patch }) }
     ensures two { IfOk result (λ made. arc_value made.1 ≡ record { seat = seat; patch = patch }) }
 {
+    let patch = shared_patch(alloc, patch)?;
     let commit = Arc::new(alloc, Commit { seat, patch })?;
     let other = Arc::try_clone(&commit)?;
     Ok((commit, other))

@@ -10,6 +10,7 @@ mod limits;
 mod putting;
 mod ready;
 mod registering;
+mod sharing;
 mod state;
 #[cfg(test)]
 mod tests;

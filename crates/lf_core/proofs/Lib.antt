@@ -19,3 +19,4 @@ pub mod Taking
 pub mod Few
 pub mod Lone
 pub mod LegalSteps
+pub mod Sends

@@ -1,11 +1,11 @@
 //! Boards that go out and come home: a board is turned and published, and one whose text was
-//! registered anew is dropped.
+//! registered anew is dropped. States, jobs and what is ready may move to another thread.
 ghost use Rattle.std.specs.Prelude.{◌≡◌, ◌<◌, ◌≤◌, ◌++◌, List};
 ghost use Rattle.def_histories.specs.declared.operation.Operation.{Operation};
 ghost use Rattle.lf_core.specs.Taken.{FitsHistory};
 
 use crate::job::Job;
-use crate::ready::Lent;
+use crate::ready::{Lent, Ready};
 use crate::state::State;
 use def_turns::Turned;
 use lf_base::{Memory, Steps};
@@ -20,6 +20,21 @@ const ALL: &str = "{}";
 
 const TYPED: &str = "{\"@type\":\"http://e/T\"}";
 
+// What is of this type may move to another thread.
+fn may_move<T: Send>(_: &T) {}
+
+fn ready_moves(ready: &Ready) {
+    may_move(ready);
+}
+
+fn job_moves(job: &Job) {
+    may_move(job);
+}
+
+fn state_moves(state: &State) {
+    may_move(state);
+}
+
 // Makes a commit ready, puts it, and says whether it lent the operation of this seat.
 fn lends_and_puts(
     alloc: Global,
@@ -29,6 +44,7 @@ fn lends_and_puts(
 ) -> Result<bool, Memory> {
     match state.ready_commit(alloc, seat, patch) {
         Ok(ready) => {
+            ready_moves(&ready);
             let lent = match ready.operation() {
                 Lent::Commit(commit) => commit.seat == seat,
                 Lent::Register { .. } => false,
@@ -51,6 +67,7 @@ fn turn_and_give<L: Ledger>(
     requires place { 1 ≤ state.old.places }
 {
     let mut job = job;
+    job_moves(&job);
     match job.work(alloc, steps) {
         Ok(()) => Ok(state.give_back(job)),
         Err(Memory) => {
@@ -205,6 +222,7 @@ fn superseded(rt: HostRuntime) -> Result<(), Fail> {
 fn what_is_ready_is_put(rt: HostRuntime) -> Result<(), Fail> {
     let alloc = rt.alloc();
     let mut state = State::new(alloc)?;
+    state_moves(&state);
     let idle = Patch {
         lines: SignedList::new(alloc),
         bytes: 0,

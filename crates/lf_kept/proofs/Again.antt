@@ -1,6 +1,5 @@
 -- What was learnt once is learnt again by the same questions.
-use Rattle.std.proofs.Common.{◌≡◌, ℕ, ◌+◌, Bool, true, false, cond, List, length, Option, Some, None, refl, sym, subst, ◌∙◌, arith, nat_cmp, is_eq}
-use Rattle.std.specs.Cmp.Lexicographic.{slice_cmp}
+use Rattle.std.proofs.Common.{◌≡◌, ℕ, ◌+◌, Bool, true, false, cond, List, length, Option, Some, None, refl, sym, subst, ◌∙◌, arith, is_eq}
 use Rattle.std.specs.BTreeMap.{BTreeMap, get}
 use Rattle.lf_rdf.specs.declared.quad.Quad.{Quad}
 use Rattle.lf_rdf.specs.declared.term.Term.{Term}
@@ -8,7 +7,9 @@ use Rattle.lf_rdf.specs.declared.question.GraphRef.{GraphRef}
 use Rattle.lf_rdf.specs.declared.question.Question.{Question}
 use Rattle.lf_model.specs.declared.value.NodeView.{NodeView}
 use Rattle.lf_oracle.specs.Asking.{Learns}
+use Rattle.lf_kept.specs.Keys.{key_cmp}
 use Rattle.lf_kept.specs.declared.entry.Kept.{Kept}
+use Rattle.lf_kept.specs.declared.key.NodeKey.{NodeKey}
 use Rattle.lf_kept.specs.Views.{AllKept, IsKept, ViewIsLearnt}
 
 -- what was learnt, from another number of steps on and with nothing told
@@ -39,16 +40,16 @@ kept_again dataset one g id first last found kept at_graph at_id same counted =
     (moved_on first last kept (λ n e. omega (arith, e, counted)))))
 
 -- all that is kept with one more
-pub one_more : (dataset : List Quad) (old new : BTreeMap (List ℕ) Kept) (key : List ℕ) (one : Kept) →
-    ((q : List ℕ) → get (slice_cmp nat_cmp) new q ≡ cond (is_eq (slice_cmp nat_cmp key q)) (Some one) (get (slice_cmp nat_cmp) old q)) →
+pub one_more : (dataset : List Quad) (old new : BTreeMap NodeKey Kept) (key : NodeKey) (one : Kept) →
+    ((q : NodeKey) → get key_cmp new q ≡ cond (is_eq (key_cmp key q)) (Some one) (get key_cmp old q)) →
     AllKept dataset old → IsKept dataset one → AllKept dataset new
 one_more dataset old new key one updates kept here =
-    λ q other at. go q other (is_eq (slice_cmp nat_cmp key q)) (sym (updates q) ∙ at)
+    λ q other at. go q other (is_eq (key_cmp key q)) (sym (updates q) ∙ at)
   where
-    go : (q : List ℕ) (other : Kept) (b : Bool) → cond b (Some one) (get (slice_cmp nat_cmp) old q) ≡ Some other → IsKept dataset other
+    go : (q : NodeKey) (other : Kept) (b : Bool) → cond b (Some one) (get key_cmp old q) ≡ Some other → IsKept dataset other
     go q other true e = subst (λ k. IsKept dataset k) (cc e) here
     go q other false e = kept q other e
 
 -- what is kept of the same quads by another name
-pub kept_of : (dataset later : List Quad) (views : BTreeMap (List ℕ) Kept) → later ≡ dataset → AllKept dataset views → AllKept later views
+pub kept_of : (dataset later : List Quad) (views : BTreeMap NodeKey Kept) → later ≡ dataset → AllKept dataset views → AllKept later views
 kept_of dataset later views stays kept = subst (λ d. AllKept d views) (sym stays) kept

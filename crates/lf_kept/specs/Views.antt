@@ -1,7 +1,5 @@
 -- Views that were learnt and are kept.
 use Rattle.std.specs.Prelude.{◌≡◌, List, ℕ, Option, Some, None, option_map}
-use Rattle.std.specs.Ordering.{nat_cmp}
-use Rattle.std.specs.Cmp.Lexicographic.{slice_cmp}
 use Rattle.std.specs.BTreeMap.{BTreeMap, get}
 use Rattle.lf_rdf.specs.declared.quad.Quad.{Quad}
 use Rattle.lf_rdf.specs.declared.term.Term.{Term}
@@ -11,7 +9,9 @@ use Rattle.def_datasets.specs.Views.{view_of}
 use Rattle.lf_oracle.specs.Asking.{Learns}
 use Rattle.lf_oracle.specs.Nearby.{IsNearOne, IsOfNode}
 use Rattle.lf_oracle.specs.NodeViews.{view_data}
+use Rattle.lf_kept.specs.Keys.{key_cmp}
 use Rattle.lf_kept.specs.declared.entry.Kept.{Kept}
+use Rattle.lf_kept.specs.declared.key.NodeKey.{NodeKey}
 
 -- what is learnt of a node by questions that nobody tells
 abbrev pub ViewIsLearnt : List Quad → GraphRef → Term → ℕ → ℕ → Option NodeView → Type 0
@@ -24,9 +24,9 @@ abbrev pub IsKept : List Quad → Kept → Type 0
 IsKept dataset kept = ViewIsLearnt dataset kept.graph kept.id 0 kept.asked kept.found
 
 -- all that is kept was
-abbrev pub AllKept : List Quad → BTreeMap (List ℕ) Kept → Type 0
+abbrev pub AllKept : List Quad → BTreeMap NodeKey Kept → Type 0
 AllKept dataset kept =
-    (key : List ℕ) (one : Kept) → get (slice_cmp nat_cmp) kept key ≡ Some one → IsKept dataset one
+    (key : NodeKey) (one : Kept) → get key_cmp kept key ≡ Some one → IsKept dataset one
 
 -- what is given again, where it was kept; otherwise no step is made
 abbrev pub IsAgain : List Quad → GraphRef → Term → ℕ → ℕ → Option (Option NodeView) → Type 0

@@ -3,8 +3,9 @@ ghost use Rattle.std.specs.Prelude.{◌≡◌, ◌+◌, ◌↔◌, List, IfOk, I
 ghost use Rattle.lf_rdf.specs.declared.quad.Quad.{Quad};
 ghost use Rattle.lf_kept.specs.Views.{AllKept, IsAgain, IsKept};
 
+use crate::key::NodeKey;
 use crate::telling::Telling;
-use lf_base::{Memory, Same, Steps, Text, TryCopy};
+use lf_base::{Memory, Same, Steps, TryCopy};
 use lf_model::NodeView;
 use lf_nodes::view_of;
 use lf_oracle::Oracle;
@@ -26,8 +27,8 @@ pub struct Kept {
 // quads, a node is seen that has such quads and no blank node among their objects.
 const CHEAP: u64 = 1;
 
-/// What was found of nodes, by their names.
-pub(crate) type KeptViews = BTreeMap<Text, Kept>;
+/// What was found of nodes, by their keys.
+pub(crate) type KeptViews = BTreeMap<NodeKey, Kept>;
 
 fn is_same_graph(one: &GraphRef, two: &GraphRef) -> bool
     ensures { IsTrue result ↔ (one.now ≡ two.now) }
@@ -73,7 +74,7 @@ fn tick_all<L: Ledger>(steps: &mut Steps<L>, asked: u64)
 pub(crate) fn again<L: Ledger>(
     alloc: Global,
     kept: &KeptViews,
-    key: &Text,
+    key: &NodeKey,
     graph: &GraphRef,
     id: &Term,
     steps: &mut Steps<L>,
@@ -126,7 +127,7 @@ pub(crate) fn first_view<O: Oracle, L: Ledger>(
 pub(crate) fn keep_dear(
     alloc: Global,
     kept: &mut KeptViews,
-    key: Text,
+    key: NodeKey,
     first: Kept,
 ) -> Result<Option<NodeView>, Memory>
     ensures found { IfOk result (λ found. found ≡ first.found) }

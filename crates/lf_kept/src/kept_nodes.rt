@@ -65,7 +65,7 @@ impl<O: Oracle> Nodes for KeptNodes<O> {
 
     /// The view of a node: asked for as [`view_of`](lf_nodes::view_of) does, then kept where that
     /// took more than one question. When a kept one is asked for again, it takes a search among n
-    /// views, some log n comparisons of texts, a copy of the view, and a tick for each question of
+    /// views, some log n comparisons of numbers, a copy of the view, and a tick for each question of
     /// the first time.
     fn node<L: Ledger>(
         &mut self,

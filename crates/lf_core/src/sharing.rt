@@ -12,8 +12,8 @@ const FEWEST_LINES: u64 = 16;
 // The most texts that are remembered.
 const MOST_SLOTS: u64 = 65_536;
 
-// How many of a text's last bytes its number is made of. The first bytes of IRIs tell little.
-const LAST_BYTES: usize = 12;
+// The prime of the 64-bit Fowler-Noll-Vo hash.
+const FACTOR: u64 = 1_099_511_628_211;
 
 /// The patch, in which a text that came in it not long before is stored once. It takes time in
 /// proportion to the texts' number, and room for at most 65,536 of them while it works.
@@ -127,13 +127,11 @@ impl RecentTexts {
     }
 }
 
-// A number of a text, of its length and its last bytes.
+// A number that depends on each byte of a text.
 fn number_of(text: &Text) -> u64 {
-    let bytes = text.as_str().as_bytes();
-    let start = bytes.len().saturating_sub(LAST_BYTES);
-    let mut number = bytes.len() as u64;
-    for byte in &bytes[start..] {
-        number = number.wrapping_mul(31).wrapping_add(u64::from(*byte));
+    let mut number = 0;
+    for byte in text.as_str().as_bytes() {
+        number = (number ^ u64::from(*byte)).wrapping_mul(FACTOR);
     }
     number
 }

@@ -1,5 +1,6 @@
 //! The keys under which views are kept.
 ghost use Rattle.std.specs.Prelude.{◌≡◌, ◌++◌, ◌∷◌, IfOk};
+ghost use Rattle.lf_base.specs.Ascii.{space};
 ghost use Rattle.lf_kept.specs.Keys.{node_name};
 
 use lf_base::{Memory, Text};
@@ -54,7 +55,7 @@ fn name_of(alloc: Global, graph: &GraphRef, id: &Term) -> Result<Text, Memory>
 
 // Two texts with a space between them.
 fn with_space(alloc: Global, one: &str, two: &str) -> Result<Text, Memory>
-    ensures { IfOk result (λ both. both ≡ one.now ++ 32 ∷ two.now) }
+    ensures { IfOk result (λ both. both ≡ one.now ++ space ∷ two.now) }
 {
     let mut both = String::from_str(alloc, one)?;
     both.push_str(" ")?;

@@ -143,7 +143,7 @@ pub fn entering(graph: &GraphRef, id: &Term, frame: &Frame, form: Form, walk: &W
     match graph_form(frame, form) {
         Some(sub) => Some(sub),
         None => {
-            if merged(graph) {
+            if is_merged(graph) {
                 None
             } else {
                 Some(Form::Wild(plain_flags()))
@@ -153,7 +153,7 @@ pub fn entering(graph: &GraphRef, id: &Term, frame: &Frame, form: Form, walk: &W
 }
 
 // Whether a graph is all graphs merged.
-fn merged(graph: &GraphRef) -> bool
+fn is_merged(graph: &GraphRef) -> bool
     ensures { result ≡ is_merged graph.now }
 {
     match graph {

@@ -13,7 +13,7 @@ ghost use Rattle.lf_embed.specs.Runs.{default_step, run_of};
 ghost use Rattle.lf_embed.specs.Walks.{path_of, state_of};
 
 use crate::entries::{fallback_entries, null_entry};
-use crate::form::{Form, numbered, omits};
+use crate::form::{Form, is_omitted, numbered};
 use crate::walk::{Stop, Walk};
 use lf_base::{Same, Text, TryCopy};
 use lf_model::{Frame, FrameProp, FramePropList, TreeProp, TreePropList, TreeValueList};
@@ -113,7 +113,7 @@ fn next_default(
     ensures path { path_of walk.new ≡ path_of walk.old }
 {
     let sub = numbered(frame, at, prop.frame);
-    if takes(frame, form, sub, &prop.property, values) {
+    if takes_default(frame, form, sub, &prop.property, values) {
         add_default(alloc, frame, sub, &prop.property, done, walk)
     } else {
         Ok(())
@@ -173,16 +173,22 @@ fn form_fallback(
 }
 
 // A property takes its default where no value of it was output and it isn't omitted.
-fn takes(frame: &Frame, form: Form, sub: Form, property: &Text, values: &TreePropList) -> bool
+fn takes_default(
+    frame: &Frame,
+    form: Form,
+    sub: Form,
+    property: &Text,
+    values: &TreePropList,
+) -> bool
     ensures { result
         ≡ takes_default (form_of frame.now.nodes form) (map property_data values.now)
         (property.now, form_of frame.now.nodes sub) }
 {
-    !is_output(values, property) && !omits(frame, form, sub)
+    !was_output(values, property) && !is_omitted(frame, form, sub)
 }
 
 // Whether a value of a property was output.
-fn is_output(values: &TreePropList, property: &Text) -> bool
+fn was_output(values: &TreePropList, property: &Text) -> bool
     ensures { result ≡ list_any (λ made. text_eq made.0 property.now) (map property_data values.now) }
 {
     any_output(values, property)

@@ -23,7 +23,7 @@ use crate::choices::{ReferenceRule, entering, is_left, reference_rule, seen_view
 use crate::defaults::default_part;
 use crate::entries::{emit_literal, refer};
 use crate::fitting::{form_accepts, form_matches};
-use crate::form::{Form, item_form, numbered, outputs, sub_form};
+use crate::form::{Form, is_output, item_form, numbered, sub_form};
 use crate::parts::{add_property, add_reverse, assemble, node_value, push_entry, push_tree};
 use crate::walk::{Stop, Walk};
 use lf_base::{Steps, TryCopy};
@@ -409,7 +409,7 @@ fn property_values<N: Nodes, L: Ledger>(
     ensures path_stays { OnOk result (path_of walk.new ≡ path_of walk.old) }
     ensures grows { OnOk result ((state_of walk.old).count ≤ (state_of walk.new).count) }
 {
-    if outputs(frame, form, &held.property) {
+    if is_output(frame, form, &held.property) {
         let sub = sub_form(frame, form, &held.property);
         emit_all(
             alloc,

@@ -123,7 +123,7 @@ pub fn sub_form(frame: &Frame, form: Form, property: &Text) -> Form
 }
 
 /// Whether a property is output: with `@explicit` only those that the frame states.
-pub fn outputs(frame: &Frame, form: Form, property: &Text) -> bool
+pub fn is_output(frame: &Frame, form: Form, property: &Text) -> bool
     ensures { result ≡ is_output (form_of frame.now.nodes form) property.now }
 {
     match stated_form(frame, form, property) {
@@ -182,7 +182,7 @@ pub fn graph_form(frame: &Frame, form: Form) -> Option<Form>
 
 /// Whether a property takes no default, by its sub-frame's `@omitDefault` where stated, else by the
 /// frame's.
-pub fn omits(frame: &Frame, form: Form, sub: Form) -> bool
+pub fn is_omitted(frame: &Frame, form: Form, sub: Form) -> bool
     ensures { result ≡ is_omitted (form_of frame.now.nodes form) (form_of frame.now.nodes sub) }
 {
     match omit_flag(frame, sub) {

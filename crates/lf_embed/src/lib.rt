@@ -27,8 +27,8 @@ pub use defaults::default_part;
 pub use entries::{emit_literal, fallback_entries, null_entry, refer};
 pub use fitting::{form_accepts, form_matches};
 pub use form::{
-    Form, WildFlags, flags_for, graph_form, item_form, numbered, omits, outputs, plain_flags,
-    stated_form, sub_form,
+    Form, WildFlags, flags_for, graph_form, is_omitted, is_output, item_form, numbered,
+    plain_flags, stated_form, sub_form,
 };
 pub use outcomes::{DEPTH_LIMIT, tree};
 pub use parts::{add_property, add_reverse, assemble, node_value, push_entry, push_tree};

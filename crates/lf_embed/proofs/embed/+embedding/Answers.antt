@@ -90,11 +90,11 @@ matched-returns-in-Err-clause-run g t c = match_over tree_data (option_map tree_
 pub matched-returns-then-branch-clause-run : goal.matched-returns-then-branch-clause-run
 matched-returns-then-branch-clause-run g t c = match_made c.args.room c.args.graph.now c.args.id.now (form_of c.args.frame.now.nodes c.args.form) c.args.free (path_of c.args.walk.now) (state_of c.args.walk.now) (state_of c.embed_viewed.new.walk) _ c.in-Some.view _ (tree_data c.in-Ok.tree) c.in-Some.is c.if-branch.true c.in_ok-node.ensures.view c.node.ensures.quads_stay c.in_ok-form_matches-in-Some.ensures.matched (c.form_matches.ensures.quads_stay ∙ c.node.ensures.quads_stay) c.in-Ok.ensures.run
 
-pub property_values-returns-then-outputs-clause-run : goal.property_values-returns-then-outputs-clause-run
-property_values-returns-then-outputs-clause-run g t c = values_output c.args.room c.args.graph.now (form_of c.args.frame.now.nodes c.args.form) _ (path_of c.args.walk.now) c.args.held.now c.as_slice.result.now (state_of c.args.walk.now) (run_of (map entry_data) c.emit_all.result (state_of c.emit_all.new.walk)) _ c.outputs.ensures c.if-outputs.true c.sub_form-sub.ensures c.as_slice.ensures c.emit_all.ensures.run
+pub property_values-returns-then-is_output-clause-run : goal.property_values-returns-then-is_output-clause-run
+property_values-returns-then-is_output-clause-run g t c = values_output c.args.room c.args.graph.now (form_of c.args.frame.now.nodes c.args.form) _ (path_of c.args.walk.now) c.args.held.now c.as_slice.result.now (state_of c.args.walk.now) (run_of (map entry_data) c.emit_all.result (state_of c.emit_all.new.walk)) _ c.is_output.ensures c.if-is_output.true c.sub_form-sub.ensures c.as_slice.ensures c.emit_all.ensures.run
 
-pub property_values-returns-else-outputs-clause-run : goal.property_values-returns-else-outputs-clause-run
-property_values-returns-else-outputs-clause-run g t c = as_made (map entry_data c.new.result) [] (state_of c.args.walk.now) (ap (map entry_data) c.new.ensures) (values_skipped c.args.room c.args.graph.now (form_of c.args.frame.now.nodes c.args.form) (path_of c.args.walk.now) c.args.held.now (state_of c.args.walk.now) _ c.outputs.ensures c.if-outputs.false)
+pub property_values-returns-else-is_output-clause-run : goal.property_values-returns-else-is_output-clause-run
+property_values-returns-else-is_output-clause-run g t c = as_made (map entry_data c.new.result) [] (state_of c.args.walk.now) (ap (map entry_data) c.new.ensures) (values_skipped c.args.room c.args.graph.now (form_of c.args.frame.now.nodes c.args.form) (path_of c.args.walk.now) c.args.held.now (state_of c.args.walk.now) _ c.is_output.ensures c.if-is_output.false)
 
 pub emit_accepted-returns-in-Ref-clause-run : goal.emit_accepted-returns-in-Ref-clause-run
 emit_accepted-returns-in-Ref-clause-run g t c = reference_value c.args.room c.args.graph.now (path_of c.args.walk.now) (form_of c.args.frame.now.nodes c.args.form) c.args.value.now _ (state_of c.args.walk.now) (run_of (option_map entry_data) c.emit_reference.result (state_of c.emit_reference.new.walk)) c.in-Ref.is c.emit_reference.ensures.run

@@ -36,20 +36,20 @@ abbrev pub session_words : List (List ℕ) → Option Command
 session_words [] = Some session
 session_words (more ∷ words) = None
 
-abbrev pub named : List ℕ → List (List ℕ) → Option Command
-named name words =
+abbrev pub command_named : List ℕ → List (List ℕ) → Option Command
+command_named name words =
     if is_word name (codes "frame") then frame_words words
     else if is_word name (codes "check") then check_words words
     else if is_word name (codes "session") then session_words words
     else None
 
-abbrev pub first_named : List (List ℕ) → Option Command
-first_named [] = None
-first_named (name ∷ words) = named name words
+abbrev pub first_command : List (List ℕ) → Option Command
+first_command [] = None
+first_command (name ∷ words) = command_named name words
 
 -- what the words ask for; all other words are refused
 abbrev pub command_of : List (List ℕ) → Option Command
-command_of words = if list_any begins_with_dash words then None else first_named words
+command_of words = if list_any begins_with_dash words then None else first_command words
 
 -- what the program read stands for
 abbrev pub command_read : ReadCommand → Command

@@ -2,7 +2,7 @@
 ghost use Rattle.std.specs.Prelude.{◌≡◌, map, string_bytes};
 ghost use Rattle.std.specs.List.{list_any};
 ghost use Rattle.std.specs.Option.{option_map};
-ghost use Rattle.lf_app.specs.Words.{begins_with_dash, frame_words, check_words, session_words, named, command_of, command_read};
+ghost use Rattle.lf_app.specs.Words.{begins_with_dash, frame_words, check_words, session_words, command_named, command_of, command_read};
 
 /// What the words ask for. Files go by their words.
 #[derive(Clone, Copy, Debug)]
@@ -75,9 +75,9 @@ fn session_words(words: &[String]) -> Option<Command<'_>>
     }
 }
 
-// The words behind a name.
-fn named<'a>(name: &str, words: &'a [String]) -> Option<Command<'a>>
-    ensures { option_map command_read result ≡ named name.now (map string_bytes words.now) }
+// The command of a name and the words behind it.
+fn command_named<'a>(name: &str, words: &'a [String]) -> Option<Command<'a>>
+    ensures { option_map command_read result ≡ command_named name.now (map string_bytes words.now) }
 {
     if name == "frame" {
         return frame_words(words);
@@ -100,7 +100,7 @@ pub fn read_words(words: &[String]) -> Option<Command<'_>>
         return None;
     }
     match words {
-        [name, rest @ ..] => named(name.as_str(), rest),
+        [name, rest @ ..] => command_named(name.as_str(), rest),
         [] => None,
     }
 }

@@ -15,7 +15,7 @@ ghost use Rattle.lf_session.specs.declared.request.Asked.TheVariants as asks;
 
 use crate::commits::{bad_line_reply, commit_reply, version_reply};
 use crate::documents::{document_reply, framed_reply, look_reply, pending_reply};
-use crate::registering::{refused_bytes, register_failed, registered_reply, retired_reply};
+use crate::registering::{no_text_reply, register_failed, registered_reply, retired_reply};
 use crate::reply::{Reply, out_of_memory, refused_reply, unknown_frame};
 use crate::request::Asked;
 use crate::texts::frame_text;
@@ -87,7 +87,7 @@ fn answer_put<D: Desk>(alloc: Global, desk: &mut D, name: &str, body: &[u8]) -> 
 {
     match str::from_utf8(body) {
         Ok(text) => register(alloc, desk, name, text),
-        Err(_) => refused_bytes(name, body),
+        Err(_) => no_text_reply(name, body),
     }
 }
 

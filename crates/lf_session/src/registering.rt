@@ -143,7 +143,7 @@ pub fn register_failed(alloc: Global, error: RegisterErr) -> Reply
 
 /// A frame's text that isn't UTF-8.
 #[tactic(auto, unfolding(def_histories::specs::Legal::most_frame_bytes))]
-pub fn refused_bytes(name: &str, body: &[u8]) -> Reply
+pub fn no_text_reply(name: &str, body: &[u8]) -> Reply
     ensures shown { shown result ≡ register_reply name.now (no_text_answer name.now body.now) }
     ensures named { IsTrue (is_named result.status) }
 {

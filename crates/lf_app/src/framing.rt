@@ -18,7 +18,7 @@ use lf_io::Shelf;
 use lf_model::{Doc, Frame};
 use std::alloc::Global;
 
-// The document of a frame over the newest version, or what stands in its place.
+// The document of a frame over the newest version, or what comes in its place.
 fn document_said<'a>(alloc: Global, file: &'a str, frame: &Frame, state: &State) -> Said<'a>
     ensures { IsOr (answer_by file.now (scratch_frame frame.now (newest_dataset state.now.history)))
         (answer_said result) }
@@ -82,7 +82,7 @@ fn frame_from_nothing<'a, F: Shelf>(
 }
 
 /// What `frame` has to say: the document of the frame file over the data files, applied in order to
-/// the empty dataset, or what stands in its place. The files are read one after another, the frame
+/// the empty dataset, or what comes in its place. The files are read one after another, the frame
 /// file first.
 pub fn frame_files<'a, F: Shelf>(
     alloc: Global,

@@ -112,7 +112,7 @@ fn is_over(alloc: Global, frame: &str, data: &str, words: &str) -> Result<bool, 
     Ok(status == 8 && printed.as_str() == words)
 }
 
-// tree-limits: one node and its values are the items. Each key, id and value has two quotes.
+// One node and its values are the items. Each key, id and value has two quotes.
 #[test]
 fn a_tree_has_at_most_so_many_items(rt: HostRuntime) -> Result<(), Fail> {
     let alloc = rt.alloc();
@@ -123,7 +123,7 @@ fn a_tree_has_at_most_so_many_items(rt: HostRuntime) -> Result<(), Fail> {
     Ok(())
 }
 
-// tree-limits: a chain of 256 nodes, of which the last is met on the path of the first.
+// A chain of 256 nodes, of which the last is met on the path of the first.
 #[test]
 fn a_path_has_at_most_so_many_nodes(rt: HostRuntime) -> Result<(), Fail> {
     let alloc = rt.alloc();
@@ -135,8 +135,7 @@ fn a_path_has_at_most_so_many_nodes(rt: HostRuntime) -> Result<(), Fail> {
     Ok(())
 }
 
-// clique-seven and clique-eight: each of the seven trees has 11,743 node objects, and they stand in
-// one graph.
+// Each of the seven trees has 11,743 node objects, and they are in one graph.
 #[test]
 fn nodes_that_name_all_others_are_embedded_again_and_again(rt: HostRuntime) -> Result<(), Fail> {
     let alloc = rt.alloc();
@@ -148,7 +147,7 @@ fn nodes_that_name_all_others_are_embedded_again_and_again(rt: HostRuntime) -> R
     Ok(())
 }
 
-// fullest-document and document-overflow: four nodes of 65,535 values each are 262,144 items.
+// Four nodes of 65,535 values each are 262,144 items.
 #[test]
 fn a_document_has_at_most_so_many_items(rt: HostRuntime) -> Result<(), Fail> {
     let alloc = rt.alloc();
@@ -175,7 +174,7 @@ const AT_LAST: &str =
 const FULL: &str =
     "HTTP/1.1 507 Insufficient Storage\r\nContent-Type: application/json\r\nContent-Length: 66\r\n\r\n{\"error\":\"history full\",\"have\":65536,\"limit\":65536,\"of\":\"commits\"}";
 
-// history-full: the last commit is accepted, and after the next, which is refused, all stays.
+// The last commit is accepted, and after the next, which is refused, all stays.
 #[test]
 fn a_history_has_at_most_so_many_commits(rt: HostRuntime) -> Result<(), Fail> {
     let alloc = rt.alloc();

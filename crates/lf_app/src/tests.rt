@@ -428,7 +428,7 @@ fn has_bad_escape(alloc: Global, data: &str) -> Result<bool, Memory> {
     )
 }
 
-// line-forms: labels with a dot inside and before the end of a quad, and escapes of what no IRI and
+// Labels with a dot inside and before the end of a quad, and escapes of what no IRI and
 // no text has.
 #[test]
 fn lines_have_many_forms(rt: HostRuntime) -> Result<(), Fail> {

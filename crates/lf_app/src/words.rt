@@ -15,7 +15,7 @@ pub enum Command<'a> {
     Session,
 }
 
-// Whether a word is refused wherever it stands.
+// Whether a word is refused wherever it comes.
 fn begins_with_dash(word: &str) -> bool
     ensures { result ≡ begins_with_dash word.now }
 {
@@ -25,7 +25,7 @@ fn begins_with_dash(word: &str) -> bool
     }
 }
 
-// Whether one of the words is refused wherever it stands.
+// Whether one of the words is refused wherever it comes.
 fn has_dash(words: &[String]) -> bool
     ensures { result ≡ list_any begins_with_dash (map string_bytes words.now) }
 {

@@ -1,4 +1,4 @@
-//! Boards: what a frame came to over a version, kept so that a later version needs less.
+//! Boards: what a frame came to over a version, and its document.
 #![tactic(auto)]
 
 mod board;

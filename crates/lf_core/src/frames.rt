@@ -146,7 +146,7 @@ pub fn put_document(
     }
 }
 
-/// No frames, with seats for the most that may be live.
+/// No frames, with room for as many as may be live.
 pub fn no_frames(alloc: Global) -> Result<Vec<Kept>, Memory>
     ensures none { IfOk result (λ frames. frames.items ≡ []) }
     ensures seats { IfOk result (λ frames. 16 ≤ vec_capacity frames) }

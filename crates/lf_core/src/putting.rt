@@ -1,4 +1,4 @@
-//! Operations that are ready are put.
+//! Puts what is ready into a state.
 ghost use Rattle.std.specs.Prelude.{◌≡◌, ◌≤◌, ◌+◌, [], ◌∷◌, ◌++◌, Some};
 ghost use Rattle.std.specs.Arc.{arc_value};
 ghost use Rattle.def_histories.specs.Legal.{IsLegal};

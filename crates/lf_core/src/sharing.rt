@@ -16,7 +16,7 @@ const MOST_SLOTS: u64 = 65_536;
 const FACTOR: u64 = 1_099_511_628_211;
 
 /// The patch, in which a text that came in it not long before is stored once. It takes time in
-/// proportion to the texts' number, and room for at most 65,536 of them while it works.
+/// proportion to the bytes of its texts, and handles of at most 65,536 of them while it works.
 pub fn shared_patch(alloc: Global, patch: Patch) -> Result<Patch, Memory>
     ensures { IfOk result (λ shared. shared ≡ patch) }
 {

@@ -115,7 +115,7 @@ impl State {
         }
     }
 
-    /// What stands at a name for a caller that needs a version: `Unknown` exactly where no frame is
+    /// What a caller finds at a name who needs a version: `Unknown` exactly where no frame is
     /// live under it, `Pending` exactly where its published version is none or below the needed
     /// one, else the published document. `Memory` comes only in place of a document.
     pub fn look(&self, name: &str, need: u64) -> Result<Look, Memory>
@@ -234,7 +234,7 @@ impl State {
     }
 }
 
-// What stands at a live frame.
+// What is found at a live frame.
 fn look_at(kept: &Kept, need: u64) -> Result<Look, Memory>
     requires shown { IsPublished kept.now }
     ensures { LooksAt kept.now need result }

@@ -86,7 +86,7 @@ pub trait Desk {
         ensures away { StaysAway (alone self.old) (history self.new)
             (away self.old) (away self.new) };
 
-    /// What stands at a name for a caller that needs a version: `Unknown` exactly where no frame is
+    /// What a caller finds at a name who needs a version: `Unknown` exactly where no frame is
     /// live under it, `Pending` exactly where its published version is none or below the needed
     /// one, else the published document. `Memory` comes only in place of a document.
     fn look(&mut self, alloc: Global, name: &str, need: u64) -> Result<Look, Memory>

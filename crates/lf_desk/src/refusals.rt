@@ -4,7 +4,7 @@ use lf_model::{Counted, LdError};
 use std::alloc::Global;
 use thiserror::Error;
 
-/// Why a patch was not committed. The conditions stand in the order in which they are tried.
+/// Why a patch was not committed. The conditions come in the order in which they are tried.
 #[derive(Clone, Copy, Debug, PartialEq, Eq, Error)]
 pub enum CommitErr {
     /// The history has 65,536 commits, or the texts with this one would have more than 268,435,456
@@ -29,7 +29,7 @@ impl From<Memory> for CommitErr {
     }
 }
 
-/// Why a frame was not registered. The conditions stand in the order in which they are tried.
+/// Why a frame was not registered. The conditions come in the order in which they are tried.
 #[derive(Debug, Drop, Error)]
 pub enum RegisterErr {
     /// The name isn't 1 to 64 letters, digits, `_` and `-`.

@@ -1,4 +1,4 @@
-//! Replies to `GET`: documents, what stands in their place, and what is still to come.
+//! Replies to `GET`: documents, what comes in their place, and what is still to come.
 ghost use Rattle.std.specs.Prelude.{◌≡◌, IsTrue};
 ghost use Rattle.std.specs.Arc.{arc_value};
 ghost use Rattle.lf_http.specs.Reply.{is_named};
@@ -39,7 +39,7 @@ fn over_reply(version: u64, limit: Limit) -> Reply
     versioned(422, version, limit_body(limit))
 }
 
-/// A document of a version that is shared: its text, or what stands in its place. It takes no
+/// A document of a version that is shared: its text, or what comes in its place. It takes no
 /// memory.
 #[tactic(auto, unfolding(lf_http::specs::Reply::reason))]
 pub fn document_reply(document: Arc<Doc>, version: u64) -> Reply
@@ -87,7 +87,7 @@ pub fn pending_reply(have: Option<u64>, need: u64) -> Reply
     plain(202, pending_body(have, need))
 }
 
-/// What stands at a frame's name.
+/// What is found at a frame's name.
 pub fn look_reply(looked: Result<Look, Memory>) -> Reply
     ensures shown { shown result ≡ look_reply looked }
     ensures named { IsTrue (is_named result.status) }

@@ -131,7 +131,7 @@ fn unless_refused(head: &Head, wanted: Asked) -> Asked
     }
 }
 
-/// What a head asks for. Refusals stand in the order in which they are tried.
+/// What a head asks for. Refusals come in the order in which they are tried.
 pub fn asked_by(head: &Head) -> Asked
     ensures { result ≡ asked_by head.entry.now }
 {

@@ -12,3 +12,4 @@ pub mod EmbedProofs
 pub mod ContentProofs
 pub mod TreeProofs
 pub mod KeyProofs
+pub mod Searching

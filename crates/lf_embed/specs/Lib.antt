@@ -7,4 +7,3 @@ pub mod Runs
 pub mod Walks
 pub mod Cycle
 pub mod Embeds
-pub mod Keys

@@ -19,7 +19,7 @@ mod tests;
 mod trees_shown;
 mod walk;
 
-pub use all_terms::{framed_keys, outcome_among, outcomes_of};
+pub use all_terms::{FramedKeys, framed_keys, outcome_among, outcomes_of};
 pub use choices::{
     ReferenceRule, entering, framed_graph, is_left, reference_rule, seen_view, types_for,
 };

@@ -7,20 +7,17 @@ ghost use Rattle.def_framing.specs.Outcome.{framed_graph, outcome};
 ghost use Rattle.def_framing.specs.OutcomeBridge.{outcome_data};
 ghost use Rattle.def_framing.specs.Views.{of_dataset};
 ghost use Rattle.def_scratch.specs.Scratch.{scratch_frame};
-ghost use Rattle.lf_embed.specs.Keys.{AreKeys};
 
 use def_documents::item_limit;
 use lf_base::{Memory, Steps};
 use lf_doc::{assemble, room_left};
-use lf_embed::{framed_keys, outcome_among};
+use lf_embed::{FramedKeys, framed_keys, outcome_among};
 use lf_index::Index;
 use lf_kept::KeptNodes;
 use lf_model::{Doc, Frame, OutcomeList};
 use lf_oracle::Nodes;
-use lf_order::ById;
 use lf_rdf::Term;
 use std::alloc::Global;
-use std::collections::BTreeSet;
 use std::marker::Brand;
 use std::sync::ledger::{Blank, Ledger};
 
@@ -29,11 +26,11 @@ fn outcomes_until<N: Nodes, L: Ledger>(
     alloc: Global,
     nodes: &mut N,
     frame: &Frame,
-    known: &BTreeSet<ById>,
+    known: &FramedKeys,
     terms: &[Term],
     steps: &mut Steps<L>,
 ) -> Result<OutcomeList, Memory>
-    requires keys { AreKeys known.now.keys (keys (N.quads nodes.old) (framed_graph frame.now.top_graph)) }
+    requires keys { known.now ≡ keys (N.quads nodes.old) (framed_graph frame.now.top_graph) }
     ensures { IfOk result (λ made.
         gathered 0 (map outcome_data made)
         ≡ gathered 0 (map (outcome (of_dataset (N.quads nodes.old)) frame.now) terms.now)) }

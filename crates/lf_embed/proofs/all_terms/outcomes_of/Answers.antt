@@ -1,6 +1,5 @@
 use Rattle.std.proofs.Common.{map, ◌∙◌}
 use Rattle.def_framing.specs.Outcome.{outcome}
-use Rattle.def_framing.specs.OutcomeBridge.{outcome_data}
 use Rattle.def_framing.specs.Views.{of_dataset}
 use Rattle.lf_embed.proofs.all_terms.outcomes_of.Goals as goal
 

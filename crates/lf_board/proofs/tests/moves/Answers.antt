@@ -1,9 +1,9 @@
-use Rattle.lf_board.proofs.tests.moves.Given as goal
+use Rattle.lf_board.proofs.tests.moves.Goals as goal
 use denote.Param.Send.{sendable}
 use Rattle.lf_board.proofs.Sends.{board_sends, home_sends}
 
-abbrev pub may_move-requires-send-T : goal.may_move-requires-send-T
+pub may_move-requires-send-T : goal.may_move-requires-send-T
 may_move-requires-send-T c κs = search (sendable, board_sends) depth 6
 
-abbrev pub may_move-requires-2-send-T : goal.may_move-requires-2-send-T
+pub may_move-requires-2-send-T : goal.may_move-requires-2-send-T
 may_move-requires-2-send-T c κs = search (sendable, home_sends) depth 6

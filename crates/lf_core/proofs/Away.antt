@@ -1,5 +1,5 @@
 -- The texts whose boards are away, over the calls of a state.
-use Rattle.std.proofs.Common.{◌≡◌, refl, sym, ◌∙◌, ap, subst, suc, ◌≤◌, ℕ, nat_eq, List, [], ◌∷◌, ◌++◌, map, Bool, true, false, not, cond, ◌&&◌, ◌||◌, Option, Some, None, is_some, arith}
+use Rattle.std.proofs.Common.{◌≡◌, refl, sym, ◌∙◌, ap, subst, suc, ◌≤◌, ℕ, nat_eq, List, [], ◌∷◌, ◌++◌, map, Bool, true, false, not, cond, ◌&&◌, ◌||◌, Option, Some, is_some, arith}
 use Rattle.std.proofs.lemmas.Bool.{eq-eqb, eqb-true, false≢true}
 use Rattle.std.proofs.lemmas.List.{append-nil, map-append}
 use Rattle.std.proofs.lemmas.List.Elements.{filter-append}
@@ -8,7 +8,7 @@ use Rattle.std.specs.List.{filter, find, list_any, AllByRecursion}
 use Rattle.lf_rdf.specs.Equality.{text_eq}
 use Rattle.def_histories.specs.declared.live.Live.{Live}
 use Rattle.def_histories.specs.declared.operation.Operation.{Operation}
-use Rattle.def_histories.specs.declared.operation.Operation.TheVariants.{Commit, Register, Retire, Publish}
+use Rattle.def_histories.specs.declared.operation.Operation.TheVariants.{Register, Retire, Publish}
 use Rattle.def_histories.specs.History.{live, live_frames, publish, registered, registrations, without}
 use Rattle.def_histories.specs.Jobs.{IsRegistered}
 use Rattle.def_histories.proofs.JobProofs.{text_numbers_are_one}
@@ -21,7 +21,7 @@ use Rattle.lf_board.specs.Boards as shown
 use Rattle.lf_core.specs.AwayLaws.{live_away}
 use Rattle.lf_core.specs.Held.{AreHeld, Held, away_from, is_home, numbers, of_other_texts, of_others}
 use Rattle.lf_core.specs.Taken.{FitsHistory, HasHome, Taken, given_job, held_job, home_of}
-use Rattle.lf_core.proofs.Each.{any_filtered, each_both, each_found, each_given, each_left, each_map, filter_of_map, filter_twice, same_filter}
+use Rattle.lf_core.proofs.Each.{any_filtered, each_both, each_found, each_left, each_map, filter_of_map, filter_twice, same_filter}
 use Rattle.lf_core.proofs.Giving.{home_isnt_superseded}
 use Rattle.lf_core.proofs.Next.{each_is_numbered}
 use Rattle.lf_core.proofs.Once.{Apart, AreOnce, IsAlone, apart_numbers, each_is_live, live_counted, live_once, live_registered, live_text_is, published_number}

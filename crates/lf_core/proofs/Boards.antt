@@ -1,25 +1,20 @@
 -- Boards at home among the live frames of a state.
-use Rattle.std.proofs.Common.{◌≡◌, refl, sym, ◌∙◌, ap, subst, ℕ, nat_eq, List, [], ◌∷◌, ◌++◌, map, length, suc, Bool, true, false, not, cond, ◌||◌, ◌&&◌, Option, Some, None, is_some}
-use Rattle.std.proofs.lemmas.Bool.{eq-eqb, eqb-true, false≢true, and_parts}
+use Rattle.std.proofs.Common.{◌≡◌, refl, sym, ◌∙◌, ap, ℕ, nat_eq, List, [], ◌∷◌, ◌++◌, Bool, true, false, not, cond, ◌||◌, Option, Some, None, is_some}
+use Rattle.std.proofs.lemmas.Bool.{eq-eqb, false≢true}
 use Rattle.std.proofs.lemmas.Grind.{flat_map-append}
 use Rattle.std.proofs.lemmas.List.Elements.{filter-append}
 use Rattle.std.proofs.lemmas.List.Folds.{list_any-append}
-use Rattle.std.specs.List.{filter, find, fold, list_any, AllByRecursion}
-use Rattle.std.specs.Option.{option_map}
-use Rattle.std.specs.Cmp.Lexicographic.{bytes_decides}
+use Rattle.std.specs.List.{AllByRecursion}
 use Rattle.lf_rdf.specs.Equality.{text_eq}
 use Rattle.def_histories.specs.declared.live.Live.{Live}
-use Rattle.def_histories.specs.History.{publish}
-use Rattle.def_histories.specs.HistoryLaws.{with_published}
 use Rattle.def_histories.proofs.LiveProofs.{text_is}
 use Rattle.lf_board.specs.Boards.{Shown}
-use Rattle.lf_versions.specs.declared.commit.Commit.{Commit}
 use Rattle.lf_core.specs.declared.frames.Kept.{Kept}
-use Rattle.lf_core.specs.Kept.{AreKept, IsKept, find_kept, has_name, lives, updated, without_board, without_kept}
+use Rattle.lf_core.specs.Kept.{find_kept, has_name, lives, updated, without_board, without_kept}
 use Rattle.lf_core.specs.Held.{Held, boards_of, held_by, held_of, is_home, of_other_texts, of_others}
 use Rattle.lf_core.specs.Taken.{home_of}
-use Rattle.lf_core.proofs.Each.{each_both, each_found, each_given, each_of_map}
-use Rattle.lf_core.proofs.Once.{Apart, AreOnce, IsAlone, apart_names, apart_numbers, apart_too}
+use Rattle.lf_core.proofs.Each.{each_both, each_found, each_of_map}
+use Rattle.lf_core.proofs.Once.{Apart, AreOnce, IsAlone, apart_names, apart_numbers}
 
 itself : (n : ℕ) → nat_eq n n ≡ true
 itself n = eq-eqb n n refl

@@ -1,22 +1,19 @@
 -- What a state's fields tell of the state as contracts see it.
-use Rattle.std.proofs.Common.{◌≡◌, refl, sym, ◌∙◌, ap, subst, suc, ◌+◌, ◌-◌, ◌<◌, ◌≤◌, ℕ, List, [], ◌∷◌, ◌++◌, length, map, true, false, cond, is_some, Option, Some, None, Result, Ok, Err, arith}
-use Rattle.std.proofs.lemmas.Bool.{false≢true}
+use Rattle.std.proofs.Common.{◌≡◌, refl, sym, ◌∙◌, ap, subst, suc, ◌+◌, ◌-◌, ◌<◌, ◌≤◌, ℕ, List, [], ◌∷◌, ◌++◌, length, true, is_some, Option, Some, None, arith}
 use Rattle.std.specs.Arc.{arc_value}
 use Rattle.std.specs.List.{AllByRecursion}
 use Rattle.std.specs.Option.{option_map}
 use Rattle.std.specs.declared.alloc.Global.{Global}
 use Rattle.std.specs.declared.sync.Arc.{Arc}
 use Rattle.lf_model.specs.declared.document.Doc.{Doc}
-use Rattle.lf_model.specs.declared.frame.Frame.{Frame}
 use Rattle.def_contexts.specs.FrameValues.{frame_meaning}
 use Rattle.def_histories.specs.declared.live.Live.{Live}
 use Rattle.def_histories.specs.declared.operation.Operation.{Operation}
 use Rattle.def_histories.specs.declared.operation.Operation.TheVariants.{Publish, Retire}
 use Rattle.def_histories.specs.History.{commits, find_frame, live, live_frames, registrations, text_bytes, without}
-use Rattle.def_histories.specs.HistoryLaws.{with_published}
 use Rattle.def_histories.specs.Legal.{IsLegal, IsRegistration, MayPublish, most_frames, most_text_bytes}
 use Rattle.def_histories.specs.Replay.{newest_dataset}
-use Rattle.def_turns.specs.declared.turned.Given.TheVariants.{GoesHome, IsSuperseded, Publishes}
+use Rattle.def_turns.specs.declared.turned.Given.TheVariants.{IsSuperseded, Publishes}
 use Rattle.def_turns.specs.declared.turned.Turned.TheVariants as t
 use Rattle.def_turns.specs.Turns.{given_to, kind_of}
 use Rattle.lf_frames.specs.FrameTexts.{is_frame}
@@ -28,15 +25,15 @@ use Rattle.lf_core.specs.declared.frames.Kept.{Kept}
 use Rattle.lf_core.specs.declared.ready.NewFrame.{NewFrame}
 use Rattle.lf_core.specs.Entries.{commits_in, committing}
 use Rattle.lf_core.specs.Kept.{AreKept, IsHome, IsKept, IsMeant, find_kept, live_of, lives, number_of, updated, with_board, with_document, without_kept}
-use Rattle.lf_core.specs.Held.{AreHeld, HasNewBoard, Held, IsHeld, Seen, boards_of, held_by, held_of, of_others}
+use Rattle.lf_core.specs.Held.{AreHeld, HasNewBoard, Held, Seen, boards_of, held_by, held_of, of_others}
 use Rattle.lf_core.specs.Prepared.{IsNew, registering}
 use Rattle.lf_core.specs.Replayed.{IsReplayed}
 use Rattle.lf_core.specs.Seat.{MeansLive}
-use Rattle.lf_core.specs.Taken.{FitsHistory, HasHome, IsStillLive, Taken, given_job, held_job}
-use Rattle.lf_core.proofs.Boards.{boards_end, boards_without, each_is_found, holding}
+use Rattle.lf_core.specs.Taken.{FitsHistory, HasHome, IsStillLive, Taken, given_job}
+use Rattle.lf_core.proofs.Boards.{boards_end, boards_without, each_is_found}
 use Rattle.lf_core.proofs.Each.{each_both}
 use Rattle.lf_core.proofs.Few.{few_bytes, few_registrations}
-use Rattle.lf_core.proofs.Giving.{IsLive, IsPublication, given_published, given_superseded}
+use Rattle.lf_core.proofs.Giving.{IsPublication, given_published, given_superseded}
 use Rattle.lf_core.proofs.Homecoming.{IsFound, commits_count, has_home, kept_home, kept_of_live, kept_published, reached}
 use Rattle.lf_core.proofs.Looking.{newest_is}
 use Rattle.lf_core.proofs.Named.{find_lives, found_is, found_live, is_live, none_live, without_lives_length}

@@ -1,6 +1,6 @@
 -- What holds of each item of a list, and filters that agree on each.
-use Rattle.std.proofs.Common.{◌≡◌, refl, sym, ◌∙◌, ap, subst, List, [], ◌∷◌, ◌++◌, map, ℕ, suc, length, Bool, true, false, not, cond, ◌&&◌, ◌||◌, Option, Some, None, is_some, unwrap_or, nat_eq}
-use Rattle.std.proofs.lemmas.Bool.{eq-eqb, eqb-true, false≢true}
+use Rattle.std.proofs.Common.{◌≡◌, refl, sym, ◌∙◌, ap, subst, List, [], ◌∷◌, ◌++◌, map, ℕ, Bool, true, false, cond, ◌&&◌, ◌||◌, Option, Some, is_some, unwrap_or, nat_eq}
+use Rattle.std.proofs.lemmas.Bool.{eqb-true, false≢true}
 use Rattle.std.specs.List.{filter, find, list_any, AllByRecursion}
 
 pub each_given : {X : Type 0} (P Q : X → Type 0) (xs : List X) → ((x : X) → P x → Q x) → AllByRecursion P xs → AllByRecursion Q xs

@@ -1,5 +1,5 @@
 -- What comes of a board that is given back, by its kind.
-use Rattle.std.proofs.Common.{◌≡◌, ◌≤◌, refl, sym, ◌∙◌, ap, ℕ, nat_eq, nat_lt, List, Bool, true, false, cond, Option, Some, None, is_some}
+use Rattle.std.proofs.Common.{◌≡◌, ◌≤◌, refl, sym, ◌∙◌, ap, ℕ, nat_eq, List, Bool, true, false, cond, Option, Some, None}
 use Rattle.std.proofs.lemmas.Bool.{eqb-true, false≢true, ltb-true}
 use Rattle.std.specs.Option.{option_map}
 use Rattle.def_histories.specs.declared.live.Live.{Live}

@@ -1,5 +1,5 @@
 -- A job that fits comes home: its board is one of the live text, and its document may be published.
-use Rattle.std.proofs.Common.{◌≡◌, refl, sym, ◌∙◌, ap, subst, ◌+◌, ◌≤◌, ℕ, List, [], ◌∷◌, ◌++◌, length, length-append, map, take, Option, Some, None, is_some, arith}
+use Rattle.std.proofs.Common.{◌≡◌, refl, sym, ◌∙◌, ap, subst, ◌+◌, ◌≤◌, ℕ, List, [], ◌∷◌, length, length-append, take, Option, Some, None, is_some, arith}
 use Rattle.std.proofs.lemmas.Bool.{false≢true}
 use Rattle.std.proofs.lemmas.List.{length-map, take-append-le}
 use Rattle.std.specs.Arc.{arc_value}
@@ -16,7 +16,7 @@ use Rattle.def_histories.specs.declared.operation.Operation.{Operation}
 use Rattle.def_histories.specs.declared.operation.Operation.TheVariants.{Commit, Register, Retire, Publish}
 use Rattle.def_histories.specs.History.{commits, find_frame, live, live_frames, patches}
 use Rattle.def_histories.specs.Jobs.{IsPrefix, IsPrefixIfSome}
-use Rattle.def_histories.proofs.JobProofs.{prefix_of_longer, prefix_of_prefix}
+use Rattle.def_histories.proofs.JobProofs.{prefix_of_prefix}
 use Rattle.lf_frames.specs.FrameTexts.{document}
 use Rattle.lf_frames.proofs.Accepting.{read_frames_give_documents}
 use Rattle.lf_desk.proofs.Found.{found_named}
@@ -26,10 +26,9 @@ use Rattle.lf_board.specs.Boards as boards
 use Rattle.lf_board.specs.Boards.{MayTurn, Shown, number, patches_by}
 use Rattle.lf_core.specs.declared.frames.Kept.{Kept}
 use Rattle.lf_core.specs.Entries.{commits_in}
-use Rattle.lf_core.specs.Kept.{IsHome, IsKept, IsMeant, IsShown, find_kept, live_of, lives, updated, with_board, with_document}
-use Rattle.lf_core.specs.Held.{Held, boards_of, held_of, of_other_texts}
-use Rattle.lf_core.specs.Replayed.{IsReplayed}
-use Rattle.lf_core.specs.Taken.{FitsHistory, HasHome, IsStillLive, Taken, held_job, home_of}
+use Rattle.lf_core.specs.Kept.{IsKept, IsMeant, IsShown, find_kept, live_of, lives, updated, with_board, with_document}
+use Rattle.lf_core.specs.Held.{boards_of, held_of, of_other_texts}
+use Rattle.lf_core.specs.Taken.{FitsHistory, HasHome, Taken, home_of}
 use Rattle.lf_core.proofs.Boards.{holding, home_found, others_stay}
 use Rattle.lf_core.proofs.Named.{find_lives}
 use Rattle.lf_core.proofs.Once.{AreOnce, live_once, live_text_is}

@@ -1,9 +1,8 @@
 -- What is kept of each live frame, when commits are more, and when frames come and go.
-use Rattle.std.proofs.Common.{◌≡◌, refl, sym, ◌∙◌, ap, subst, suc, ◌+◌, ◌≤◌, ℕ, List, [], ◌∷◌, ◌++◌, length, length-append, take, map, Bool, true, false, not, cond, Option, Some, None, arith}
+use Rattle.std.proofs.Common.{◌≡◌, refl, sym, ◌∙◌, ap, subst, suc, ◌+◌, ℕ, List, [], ◌∷◌, ◌++◌, length, length-append, take, map, Bool, true, false, not, cond, Option, Some, None, arith}
 use Rattle.std.proofs.lemmas.List.{map-append, take-append-le}
 use Rattle.std.proofs.lemmas.List.{length-map}
 use Rattle.std.specs.Cmp.Lexicographic.{bytes_decides}
-use Rattle.std.specs.Arc.{arc_value}
 use Rattle.std.specs.declared.alloc.Global.{Global}
 use Rattle.std.specs.declared.sync.Arc.{Arc}
 use Rattle.lf_rdf.specs.declared.quad.Signed.{Signed}
@@ -18,7 +17,7 @@ use Rattle.def_histories.proofs.JobProofs.{prefix_of_longer}
 use Rattle.lf_frames.specs.FrameTexts.{document}
 use Rattle.lf_versions.specs.declared.commit.Commit.{Commit}
 use Rattle.lf_versions.specs.Commits.{lines_of}
-use Rattle.lf_board.specs.Boards.{MayTurn, Shown, patches_by}
+use Rattle.lf_board.specs.Boards.{Shown, patches_by}
 use Rattle.lf_core.specs.declared.frames.Kept.{Kept}
 use Rattle.lf_core.specs.Kept.{AreKept, IsHome, IsKept, IsShown, find_kept, has_name, lives, updated, without_kept}
 use Rattle.lf_core.proofs.Once.{AreOnce, IsAlone}

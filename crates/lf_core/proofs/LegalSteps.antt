@@ -1,5 +1,5 @@
 -- A legal history stays so over the calls of a state.
-use Rattle.std.proofs.Common.{◌≡◌, sym, ◌∙◌, ap, subst, ℕ, List, [], ◌∷◌, ◌++◌, Bool, true, false, cond, is_some, Result, Ok, Err}
+use Rattle.std.proofs.Common.{◌≡◌, sym, ◌∙◌, subst, ℕ, List, [], ◌∷◌, ◌++◌, Bool, true, false, cond, is_some, Result, Ok, Err}
 use Rattle.std.proofs.lemmas.List.{append-nil}
 use Rattle.lf_rdf.specs.declared.quad.Patch.{Patch}
 use Rattle.lf_desk.specs.declared.refusals.CommitErr.{CommitErr}

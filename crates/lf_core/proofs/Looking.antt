@@ -1,6 +1,5 @@
 -- What stands at a live frame is what the history says.
-use Rattle.std.proofs.Common.{◌≡◌, refl, sym, ◌∙◌, ap, subst, ◌≤◌, ℕ, List, length, Bool, true, false, Option, Some, None, is_some, Result, Ok, Err}
-use Rattle.std.proofs.lemmas.Bool.{false≢true}
+use Rattle.std.proofs.Common.{◌≡◌, refl, ◌∙◌, ap, subst, ℕ, List, Option, Some, None, is_some, Result, Ok, Err}
 use Rattle.std.specs.Arc.{arc_value}
 use Rattle.std.specs.Option.{option_map}
 use Rattle.std.specs.declared.alloc.Global.{Global}
@@ -11,10 +10,9 @@ use Rattle.lf_model.specs.declared.desk.Look.{Look}
 use Rattle.lf_model.specs.declared.desk.Look.TheVariants.{Document, Pending, Unknown}
 use Rattle.lf_model.specs.declared.document.Doc.{Doc}
 use Rattle.def_datasets.specs.Dataset.{at_version}
-use Rattle.def_histories.specs.declared.live.Live.{Live}
 use Rattle.def_histories.specs.declared.operation.Operation.{Operation}
-use Rattle.def_histories.specs.History.{live, patches}
-use Rattle.def_histories.specs.Replay.{dataset_at, newest_dataset}
+use Rattle.def_histories.specs.History.{live}
+use Rattle.def_histories.specs.Replay.{newest_dataset}
 use Rattle.lf_frames.specs.FrameTexts.{document}
 use Rattle.lf_desk.specs.Looks.{Looks}
 use Rattle.lf_versions.specs.declared.commit.Commit as versions

@@ -4,7 +4,6 @@ use Rattle.std.specs.List.{filter, find, remove, position, position_or_len, slic
 use Rattle.std.proofs.lemmas.Bool.{false≢true, ltb-false}
 use Rattle.std.proofs.lemmas.List.Folds.{find_at}
 use Rattle.std.proofs.lemmas.Option.{slice_get_past}
-use Rattle.lf_rdf.specs.Equality.{text_eq}
 use Rattle.def_histories.specs.declared.live.Live.{Live}
 use Rattle.def_histories.specs.History.{find_frame, without}
 use Rattle.std.specs.Option.{option_map}

@@ -1,15 +1,15 @@
 -- The frame whose turn is next, among the frames of a state.
-use Rattle.std.proofs.Common.{◌≡◌, refl, sym, ◌∙◌, ap, subst, ℕ, nat_eq, List, [], ◌∷◌, ◌++◌, map, Bool, true, false, not, cond, ◌&&◌, ◌||◌, Option, Some, None, is_some}
-use Rattle.std.proofs.lemmas.Bool.{eq-eqb, false≢true, and_parts}
+use Rattle.std.proofs.Common.{◌≡◌, refl, sym, ◌∙◌, ap, subst, ℕ, nat_eq, List, [], ◌∷◌, Bool, true, false, not, cond, ◌&&◌, ◌||◌, Option, Some, None, is_some}
+use Rattle.std.proofs.lemmas.Bool.{eq-eqb, and_parts}
 use Rattle.std.specs.List.{filter, fold, list_any, AllByRecursion}
 use Rattle.std.specs.Option.{option_map}
 use Rattle.def_histories.specs.declared.live.Live.{Live}
 use Rattle.def_histories.specs.declared.operation.Operation.{Operation}
-use Rattle.def_histories.specs.History.{commits, live, live_frames}
-use Rattle.def_turns.specs.Turns.{first, first_of, is_away, is_before, is_older, next_frame, waits}
+use Rattle.def_histories.specs.History.{commits, live_frames}
+use Rattle.def_turns.specs.Turns.{first, first_of, is_before, is_older, next_frame, waits}
 use Rattle.lf_core.specs.declared.frames.Kept.{Kept}
 use Rattle.lf_core.specs.Kept.{better_kept, find_kept, first_kept, live_of, lives, next_kept, waits_home}
-use Rattle.lf_core.specs.Held.{Held, Seen, away_from, boards_of, is_home, numbers}
+use Rattle.lf_core.specs.Held.{Held, away_from, boards_of, is_home, numbers}
 use Rattle.lf_core.proofs.Boards.{each_is_found, each_is_home}
 use Rattle.lf_core.proofs.Each.{any_filtered, each_both, each_given, each_of_map}
 use Rattle.lf_core.proofs.Once.{AreOnce, live_once}

@@ -3,13 +3,11 @@ use Rattle.std.proofs.Common.{◌≡◌, refl, sym, ◌∙◌, ap, subst, ℕ, s
 use Rattle.std.proofs.lemmas.Bool.{false≢true, not-false, not_from_true, lt-ltb, le-ltb, ltb-false, ltb-true}
 use Rattle.lf_rdf.specs.declared.quad.Patch.{Patch}
 use Rattle.lf_rdf.specs.declared.quad.Quad.{Quad}
-use Rattle.lf_model.specs.declared.desk.Counted.TheVariants as counted
 use Rattle.def_datasets.specs.Dataset.{after}
 use Rattle.def_histories.specs.declared.operation.Operation.{Operation}
 use Rattle.def_histories.specs.declared.operation.Operation.TheVariants.{Commit}
 use Rattle.def_histories.specs.History.{commits, text_bytes}
-use Rattle.def_histories.specs.Legal.{IsCommit, IsLegal, most_commits, most_text_bytes, most_quads}
-use Rattle.def_histories.specs.Replay.{newest_dataset}
+use Rattle.def_histories.specs.Legal.{IsLegal, most_commits, most_text_bytes, most_quads}
 use Rattle.def_histories.proofs.LegalProofs.{allowed_is_legal}
 use Rattle.lf_frames.specs.FrameTexts.{is_frame}
 use Rattle.lf_desk.specs.declared.refusals.CommitErr.{CommitErr}
@@ -20,7 +18,7 @@ use Rattle.lf_desk.proofs.PatchAnswers.{accepted}
 use Rattle.lf_versions.specs.declared.commit.Commit as versions
 use Rattle.lf_versions.specs.declared.error.VersionErr.{VersionErr}
 use Rattle.lf_versions.specs.declared.error.VersionErr.TheVariants as v
-use Rattle.lf_versions.specs.Commits.{dataset, version_after}
+use Rattle.lf_versions.specs.Commits.{version_after}
 use Rattle.lf_core.specs.Checks.{Failed, history_answer}
 use Rattle.lf_core.specs.Entries.{commits_in}
 use Rattle.lf_core.specs.Prepared.{FitsOn, Prepares, ReadiesCommit}

@@ -1,15 +1,14 @@
 -- What is made ready is what is put.
-use Rattle.std.proofs.Common.{◌≡◌, refl, sym, ◌∙◌, ap, subst, suc, ℕ, List, [], ◌∷◌, ◌++◌, true, Option, Some, None, Result, Ok, Err}
+use Rattle.std.proofs.Common.{◌≡◌, sym, ◌∙◌, ap, subst, suc, ℕ, List, [], ◌∷◌, ◌++◌, true, Option, Some, None, Ok}
 use Rattle.lf_rdf.specs.declared.quad.Patch.{Patch}
 use Rattle.lf_model.specs.declared.frame.Frame.{Frame}
 use Rattle.def_histories.specs.declared.operation.Operation.{Operation}
-use Rattle.def_histories.specs.declared.operation.Operation.TheVariants.{Commit, Register}
+use Rattle.def_histories.specs.declared.operation.Operation.TheVariants.{Register}
 use Rattle.def_histories.specs.History.{commits, registrations}
 use Rattle.def_histories.specs.Legal.{IsLegal}
 use Rattle.def_histories.proofs.LegalProofs.{allowed_is_legal}
 use Rattle.def_histories.proofs.LiveProofs.{commit_makes_version}
 use Rattle.lf_frames.specs.FrameTexts.{frame_text, is_frame}
-use Rattle.lf_desk.specs.declared.refusals.CommitErr.{CommitErr}
 use Rattle.lf_desk.specs.CommitAnswer.{commit_answer}
 use Rattle.lf_desk.specs.RegisterAnswer.{register_answer}
 use Rattle.lf_desk.proofs.FrameAnswers as frames

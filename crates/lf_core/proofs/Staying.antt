@@ -1,10 +1,9 @@
 -- What a state's calls leave of the texts that are away.
-use Rattle.std.proofs.Common.{◌≡◌, refl, sym, ◌∙◌, ap, subst, ℕ, List, [], ◌∷◌, ◌++◌, Bool, true, false, cond, Option, Some, None, Result, Ok, Err}
+use Rattle.std.proofs.Common.{◌≡◌, refl, sym, ◌∙◌, ap, ℕ, List, [], ◌∷◌, ◌++◌, Bool, true, false, cond, Result, Ok, Err}
 use Rattle.std.proofs.lemmas.List.{append-nil}
 use Rattle.lf_rdf.specs.declared.quad.Patch.{Patch}
-use Rattle.def_histories.specs.declared.live.Live.{Live}
 use Rattle.def_histories.specs.declared.operation.Operation.{Operation}
-use Rattle.def_histories.specs.declared.operation.Operation.TheVariants.{Commit, Register, Retire}
+use Rattle.def_histories.specs.declared.operation.Operation.TheVariants.{Commit, Retire}
 use Rattle.def_histories.specs.History.{live_frames}
 use Rattle.def_histories.proofs.LiveProofs.{live_frames_step}
 use Rattle.def_turns.specs.Turns.{still_live}
@@ -13,7 +12,7 @@ use Rattle.lf_desk.specs.declared.refusals.RegisterErr.{RegisterErr}
 use Rattle.lf_desk.specs.CommitAnswer.{committed_by}
 use Rattle.lf_desk.specs.RegisterAnswer.{registered_by}
 use Rattle.lf_core.specs.AwayLaws.{live_away}
-use Rattle.lf_core.specs.Held.{AreHeld, Held, RegistersBoard, Seen, away, away_from, numbers, of_others}
+use Rattle.lf_core.specs.Held.{AreHeld, RegistersBoard, Seen, away, away_from, numbers, of_others}
 use Rattle.lf_core.proofs.Away.{away_registered, away_retired, away_stays}
 
 -- what stands before and after is the same, but for the places

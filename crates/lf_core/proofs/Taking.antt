@@ -1,14 +1,13 @@
 -- The board of the frame whose turn is next is taken.
-use Rattle.std.proofs.Common.{◌≡◌, refl, sym, ◌∙◌, ap, subst, ◌+◌, ◌≤◌, ℕ, List, [], ◌∷◌, ◌++◌, length, map, true, Option, Some, None, is_some, arith}
+use Rattle.std.proofs.Common.{◌≡◌, refl, sym, ◌∙◌, ap, subst, ◌+◌, ◌≤◌, ℕ, List, [], length, Option, Some, None, is_some}
 use Rattle.std.proofs.lemmas.Bool.{false≢true}
 use Rattle.std.proofs.lemmas.List.{append-nil, length-map}
 use Rattle.std.specs.Option.{option_map}
 use Rattle.lf_rdf.specs.Equality.{text_eq}
-use Rattle.lf_rdf.specs.declared.quad.Signed.{Signed}
 use Rattle.lf_model.specs.declared.document.Doc.{Doc}
 use Rattle.def_histories.specs.declared.live.Live.{Live}
 use Rattle.def_histories.specs.declared.operation.Operation.{Operation}
-use Rattle.def_histories.specs.History.{commits, find_frame, live, live_frames, patches}
+use Rattle.def_histories.specs.History.{find_frame, live, live_frames, patches}
 use Rattle.def_histories.specs.Jobs.{IsPrefix, IsRegistered}
 use Rattle.def_turns.specs.Turns.{next_frame}
 use Rattle.lf_versions.specs.declared.commit.Commit as versions
@@ -21,7 +20,7 @@ use Rattle.lf_core.specs.Entries.{commits_in, operations, operation_of}
 use Rattle.lf_core.specs.Kept.{AreKept, HandlesBoard, IsHome, IsKept, board_of, find_kept, live_of, lives, next_kept, updated, without_board}
 use Rattle.lf_core.specs.Held.{Seen, away, away_from, boards_of}
 use Rattle.lf_core.specs.Replayed.{IsReplayed}
-use Rattle.lf_core.specs.Taken.{FitsHistory, IsNextOf, Taken}
+use Rattle.lf_core.specs.Taken.{FitsHistory, IsNextOf}
 use Rattle.lf_core.proofs.Boards.{others_left, was_home}
 use Rattle.lf_core.proofs.Calls.{seen_of}
 use Rattle.lf_core.proofs.Each.{each_found}

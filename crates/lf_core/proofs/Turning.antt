@@ -1,12 +1,10 @@
 -- A turn of a state as a turn of a rota.
-use Rattle.std.proofs.Common.{◌≡◌, cond, false, refl, sym, ◌∙◌, ap, subst, ℕ, nat_eq, IfOk, List, [], ◌∷◌, ◌++◌, Bool, true, Option, Some, None, Result, Ok, Err}
+use Rattle.std.proofs.Common.{◌≡◌, cond, false, refl, sym, ◌∙◌, ap, subst, ℕ, nat_eq, IfOk, List, [], ◌++◌, Bool, true, Option, Some, None, Result, Ok, Err}
 use Rattle.std.proofs.lemmas.List.{append-nil, length-map}
 use Rattle.std.specs.List.{list_any}
 use Rattle.std.proofs.lemmas.Bool.{false≢true}
 use Rattle.lf_base.specs.declared.memory.Memory.{Memory}
-use Rattle.lf_rdf.specs.declared.quad.Signed.{Signed}
 use Rattle.def_histories.specs.declared.operation.Operation.{Operation}
-use Rattle.def_histories.specs.Jobs.{Job}
 use Rattle.def_histories.specs.Legal.{IsLegal}
 use Rattle.def_histories.specs.History.{live, live_frames}
 use Rattle.def_histories.specs.declared.live.Live.{Live}
@@ -15,12 +13,11 @@ use Rattle.def_turns.specs.declared.turned.Turned.TheVariants as t
 use Rattle.def_turns.specs.Turns.{entry_of, given_back, given_to, home_or_published, is_newer, kind_of, next_frame, waiting}
 use Rattle.def_turns.specs.TurnLaws.{GivenBackIsAllowed}
 use Rattle.lf_frames.specs.FrameTexts.{is_frame}
-use Rattle.lf_desk.specs.Rotas.{IsOwn, IsOwnIfSome, IsTaken, TakesBy, back, board_number, worked}
+use Rattle.lf_desk.specs.Rotas.{IsOwnIfSome, TakesBy, back, board_number}
 use Rattle.lf_desk.proofs.Found.{none_waits}
 use Rattle.lf_versions.specs.declared.commit.Commit.{Commit}
 use Rattle.lf_versions.specs.Commits.{lines_of}
 use Rattle.lf_board.specs.Boards.{number, number_by, patches_by}
-use Rattle.lf_core.specs.Entries.{commits_in}
 use Rattle.lf_core.specs.Held.{Seen, away, away_from, numbers, of_other_texts}
 use Rattle.lf_core.specs.Taken.{FitsHistory, HasBack, HasHome, IsNextOf, IsTakenFrom, Taken, given_job, held_job, job_data, job_meaning, turned_job}
 use Rattle.lf_core.proofs.Away.{away_back, away_superseded, away_with, away_without, home_is_there, published_numbers}

@@ -1,7 +1,7 @@
 -- The first item that passes a test is another.
-use Rattle.std.proofs.Common.{◌≡◌, refl, sym, ◌∙◌, ap, subst, zero, suc, ◌<◌, ℕ, List, [], ◌∷◌, length, Bool, true, false, cond, Option, Some, None, is_some, slice_index_or, slice_set, nat_lt, arith}
-use Rattle.std.specs.List.{find, fold, position, position_or_len, slice_get}
-use Rattle.std.proofs.lemmas.Bool.{false≢true, ltb-false}
+use Rattle.std.proofs.Common.{◌≡◌, refl, sym, ◌∙◌, ap, zero, suc, ◌<◌, ℕ, List, [], ◌∷◌, length, Bool, true, false, cond, Option, Some, is_some, slice_index_or, slice_set, arith}
+use Rattle.std.specs.List.{position}
+use Rattle.std.proofs.lemmas.Bool.{false≢true}
 use Rattle.std.proofs.lemmas.List.Quantifiers.{position-Some}
 use Rattle.lf_core.specs.declared.frames.Kept.{Kept}
 use Rattle.lf_core.specs.Kept.{find_kept, has_name, updated}

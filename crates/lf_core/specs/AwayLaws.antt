@@ -1,5 +1,5 @@
 -- The texts whose boards are away are live.
-use Rattle.std.proofs.Common.{◌≡◌, refl, sym, ap, ℕ, nat_eq, List, [], ◌∷◌, Bool, true, false, not, cond, ◌||◌}
+use Rattle.std.proofs.Common.{◌≡◌, refl, ap, ℕ, nat_eq, List, [], ◌∷◌, Bool, true, false, not, cond, ◌||◌}
 use Rattle.std.proofs.lemmas.Bool.{eq-eqb}
 use Rattle.std.specs.List.{filter, list_any, AllByRecursion}
 use Rattle.def_histories.specs.declared.live.Live.{Live}

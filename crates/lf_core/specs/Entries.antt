@@ -1,6 +1,6 @@
 -- The stored history: its entries as the operations that they are. A commit's patch is shared with
 -- the versions.
-use Rattle.std.specs.Prelude.{List, [], ◌∷◌, ℕ, map}
+use Rattle.std.specs.Prelude.{List, [], ◌∷◌, map}
 use Rattle.std.specs.Arc.{arc_value}
 use Rattle.lf_versions.specs.declared.commit.Commit as versions
 use Rattle.def_histories.specs.declared.operation.Operation.{Operation}

@@ -1,4 +1,4 @@
-use Rattle.std.proofs.Common.{◌≡◌, sym, ◌∙◌, ap, Some, None}
+use Rattle.std.proofs.Common.{sym, ◌∙◌, ap}
 use Rattle.std.specs.List.{position}
 use Rattle.lf_core.specs.Kept.{has_name, with_document}
 use Rattle.lf_core.proofs.Updating.{none_updated, updated_at}

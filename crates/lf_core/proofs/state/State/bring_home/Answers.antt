@@ -1,4 +1,4 @@
-use Rattle.std.proofs.Common.{◌≡◌, ◌∙◌, ap, List, ℕ}
+use Rattle.std.proofs.Common.{◌≡◌, ◌∙◌, ap}
 use Rattle.lf_core.specs.Taken.{Taken}
 use Rattle.lf_core.proofs.Calls.{came_home, home_boards}
 use Rattle.lf_core.proofs.state.State.bring_home.Goals as goal

@@ -1,4 +1,3 @@
-use Rattle.std.proofs.Common.{sym, ◌∙◌, ap, Ok}
 use Rattle.lf_core.proofs.Prepare.{commit_answers}
 use Rattle.lf_core.proofs.state.State.commit.Goals as goal
 

@@ -1,4 +1,3 @@
-use Rattle.std.proofs.Common.{sym, ◌∙◌, ap}
 use Rattle.lf_core.proofs.Prepare.{readied_frame}
 use Rattle.lf_core.proofs.state.State.ready_register.Goals as goal
 

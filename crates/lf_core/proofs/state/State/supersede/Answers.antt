@@ -1,6 +1,5 @@
-use Rattle.std.proofs.Common.{◌≡◌, sym, ◌∙◌, ap, List, ℕ, Option}
+use Rattle.std.proofs.Common.{◌∙◌, ap}
 use Rattle.std.specs.Option.{option_map}
-use Rattle.lf_core.specs.declared.frames.Kept.{Kept}
 use Rattle.lf_core.specs.Kept.{find_kept, number_of}
 use Rattle.lf_core.specs.Taken.{Taken}
 use Rattle.lf_core.proofs.Calls.{superseded_answer}

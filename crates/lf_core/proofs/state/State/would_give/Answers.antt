@@ -1,4 +1,4 @@
-use Rattle.std.proofs.Common.{rules, ◌≡◌, sym, ◌∙◌, ap, Option, Some, None}
+use Rattle.std.proofs.Common.{◌≡◌, sym, ◌∙◌, ap, Option, Some, None}
 use Rattle.def_histories.specs.declared.live.Live.{Live}
 use Rattle.def_turns.specs.Turns.{given_to, kind_of}
 use Rattle.lf_board.specs.Boards.{number}

@@ -1,3 +1,4 @@
+//! Keys and views over the plain oracle: lists, names of graphs, and the merged graph.
 ghost use Rattle.std.specs.Prelude.{◌≡◌, ◌<◌};
 
 use crate::NodesOver;

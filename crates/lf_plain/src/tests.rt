@@ -1,3 +1,4 @@
+//! A list of quads as an oracle: its answers, and the questions that it tells.
 ghost use Rattle.std.specs.Prelude.{◌≡◌, ◌<◌, IsTrue};
 ghost use Rattle.lf_oracle.specs.Asking.{asks_one_graph};
 
